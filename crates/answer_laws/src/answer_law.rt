@@ -27,11 +27,15 @@ use text_laws::texts_read_as_one_model;
 /// A job has one answer to a text, and so every byte that is written is determined by them. It comes from the
 /// one model that the text reads as, the one list of applications of rules to it, and the one model reduced to.
 pub fn answers_are_determined()
-    ensures answer { (job : Job) (text : List ℕ) (a b : Answer) → Answers (reading_of job) text a → Answers (reading_of job) text b → a ≡ b }
-    ensures has_answer { (job : Job) (text : List ℕ) → MayBeAsked (reading_of job) → (a : Answer) × Answers (reading_of job) text a }
+    ensures answer { (job : Job) (text : List ℕ) (a b : Answer) → Answers (reading_of job) text a
+        → Answers (reading_of job) text b → a ≡ b }
+    ensures has_answer { (job : Job) (text : List ℕ) → MayBeAsked (reading_of job)
+        → (a : Answer) × Answers (reading_of job) text a }
     ensures model { (text : List ℕ) (g h : EventGraph) → Reads text g → Reads text h → g ≡ h }
-    ensures applications { (g : EventGraph) (a b : List RuleApplication) (h k : EventGraph) → Strategy g a h → Strategy g b k → a ≡ b }
-    ensures reduced { (g : EventGraph) (a b : List RuleApplication) (h k : EventGraph) → Strategy g a h → Strategy g b k → h ≡ k }
+    ensures applications { (g : EventGraph) (a b : List RuleApplication) (h k : EventGraph)
+        → Strategy g a h → Strategy g b k → a ≡ b }
+    ensures reduced { (g : EventGraph) (a b : List RuleApplication) (h k : EventGraph)
+        → Strategy g a h → Strategy g b k → h ≡ k }
 {
     answers_keep_their_laws();
     texts_have_one_complaint();
@@ -44,11 +48,16 @@ pub fn answers_are_determined()
 /// Refused is exactly what can't be read: a text that reads as no model, and for `certify` and `resume` as no document.
 /// Within the limit such a text has a complaint, and no other has one; over the limit nothing can be read.
 pub fn unreadable_texts_are_refused()
-    ensures refused { (job : Job) (text : List ℕ) (a : Answer) → Answers (reading_of job) text a → (status_of_answer a ≡ Status.Refused) ↔ IsUnreadable (reading_of job) text }
-    ensures complaint { (text : List ℕ) → length text ≤ TEXT_MAX → HasComplaint text ↔ IsNoModel text }
-    ensures document_complaint { (text : List ℕ) → length text ≤ DOCUMENT_MAX → HasDocumentComplaint text ↔ IsNoDocument text }
-    ensures saved_complaint { (text : List ℕ) → length text ≤ DOCUMENT_MAX → HasSavedComplaint text ↔ IsNoSavedDocument text }
-    ensures too_long { (job : Job) (text : List ℕ) → IsOver (limit_of (reading_of job)) text → Answers (reading_of job) text (refused too_long) × IsUnreadable (reading_of job) text }
+    ensures refused { (job : Job) (text : List ℕ) (a : Answer) → Answers (reading_of job) text a
+        → (status_of_answer a ≡ Status.Refused) ↔ IsUnreadable (reading_of job) text }
+    ensures complaint { (text : List ℕ) → length text ≤ TEXT_MAX
+        → HasComplaint text ↔ IsNoModel text }
+    ensures document_complaint { (text : List ℕ) → length text ≤ DOCUMENT_MAX
+        → HasDocumentComplaint text ↔ IsNoDocument text }
+    ensures saved_complaint { (text : List ℕ) → length text ≤ DOCUMENT_MAX
+        → HasSavedComplaint text ↔ IsNoSavedDocument text }
+    ensures too_long { (job : Job) (text : List ℕ) → IsOver (limit_of (reading_of job)) text
+        → Answers (reading_of job) text (refused too_long) × IsUnreadable (reading_of job) text }
 {
     answers_keep_their_laws();
     texts_have_one_complaint();

@@ -18,8 +18,10 @@ use std::alloc::Global;
 /// How the words end on a text that comes from a source which never fails, where outputs keep nothing.
 pub fn sure_status(alloc: Global, words: &[String], text: Text) -> Status
     // Words that are a job leave no status but that of the job's answer to the text, and want of memory.
-    ensures { (job : Job) → job_of (map string_bytes words.now) ≡ Some job → (result ≡ Status.NoMemory)
-        ⊎ IfSome (text_of (limit_of (reading_of job)) (Some text)) (λ bytes. (a : Answer) × Answers (reading_of job) bytes a × (result ≡ status_of_answer a)) }
+    ensures { (job : Job) → job_of (map string_bytes words.now) ≡ Some job
+        → (result ≡ Status.NoMemory)
+        ⊎ IfSome (text_of (limit_of (reading_of job)) (Some text))
+        (λ bytes. (a : Answer) × Answers (reading_of job) bytes a × (result ≡ status_of_answer a)) }
 {
     let mut input = SureSource::new(text, 4096);
     let mut output = NullSink::new();

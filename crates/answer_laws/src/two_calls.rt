@@ -30,10 +30,13 @@ pub fn print_and_reduce<S: Source, K: Sink, E: Sink>(
 ) -> (ExitCode, ExitCode)
     // Where the words are `print` and `reduce`, both inputs give the same bytes, and both exit statuses are 0, the outputs
     // grew by bytes that show two models, which are the same.
-    ensures { map string_bytes (vec_items print) ≡ codes "print" ∷ [] → map string_bytes (vec_items reduce) ≡ codes "reduce" ∷ []
-        → (text : List ℕ) → (S.seen first.old).left ≡ Some text → (S.seen second.old).left ≡ Some text
+    ensures { map string_bytes (vec_items print) ≡ codes "print" ∷ []
+        → map string_bytes (vec_items reduce) ≡ codes "reduce" ∷ []
+        → (text : List ℕ) → (S.seen first.old).left ≡ Some text
+        → (S.seen second.old).left ≡ Some text
         → exit_status result.0 ≡ 0 → exit_status result.1 ≡ 0
-        → (a b : List ℕ) × ShowTheSame a b × GrowsBy (K.seen printed.old).written (K.seen printed.new).written a
+        → (a b : List ℕ) × ShowTheSame a b
+        × GrowsBy (K.seen printed.old).written (K.seen printed.new).written a
         × GrowsBy (K.seen reduced.old).written (K.seen reduced.new).written b }
 {
     texts_read_as_one_model();

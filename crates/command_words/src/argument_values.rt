@@ -86,7 +86,8 @@ fn whole_numbers(alloc: Global, texts: &[&[u8]]) -> Result<List<i64>, WordsError
 
 /// The texts between the commas.
 fn between_commas(alloc: Global, text: &[u8]) -> Result<Vec<&[u8]>, AllocError>
-    ensures { IfOk result (λ texts. map (λ part. part.now) texts.items ≡ slice_split (λ c. c == 44) text.now) }
+    ensures { IfOk result
+        (λ texts. map (λ part. part.now) texts.items ≡ slice_split (λ c. c == 44) text.now) }
 {
     text.split(|c| *c == b',').collect(alloc)
 }

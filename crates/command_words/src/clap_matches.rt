@@ -41,7 +41,8 @@ fn with_option<'a>(
     command: Command<'a>,
     name: &'a str,
 ) -> Result<Command<'a>, AllocError>
-    ensures { IfOk result (λ c. app_of c ≡ with_rule (app_of command.entry) (option name.entry.now)) }
+    ensures { IfOk result
+        (λ c. app_of c ≡ with_rule (app_of command.entry) (option name.entry.now)) }
 {
     command.arg(Arg::new(alloc, name).long(name))
 }
@@ -59,7 +60,8 @@ fn command_line<'a>(alloc: Global) -> Result<Command<'a>, AllocError>
 
 /// The words after the program's name, which `clap` passes over.
 pub(crate) fn with_program(alloc: Global, words: &[String]) -> Result<Vec<&str>, NoMemory>
-    ensures { IfOk result (λ named. map (λ w. w.now) named.items ≡ codes "sigma" ∷ map string_bytes words.now) }
+    ensures { IfOk result
+        (λ named. map (λ w. w.now) named.items ≡ codes "sigma" ∷ map string_bytes words.now) }
 {
     let mut named = Vec::new(alloc);
     named.push("sigma")?;
@@ -74,7 +76,8 @@ pub(crate) fn matched<'a>(
     alloc: Global,
     words: &'a [&'a str],
 ) -> Result<Option<ArgMatches<'a>>, NoMemory>
-    ensures { IfOk result (λ matches. option_map rows_in matches ≡ clap_rows (map (λ w. w.now) words.entry.now)) }
+    ensures { IfOk result
+        (λ matches. option_map rows_in matches ≡ clap_rows (map (λ w. w.now) words.entry.now)) }
 {
     match command_line(alloc)?.try_get_matches_from(words) {
         Ok(matches) => Ok(Some(matches)),

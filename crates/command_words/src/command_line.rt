@@ -80,7 +80,9 @@ fn needed_number(
     lowest: u64,
     highest: u64,
 ) -> Result<u64, WordsError>
-    ensures { Asked (needed (number_within lowest highest) (matched_values (rows_in matches.now) name.now)) result }
+    ensures { Asked
+        (needed (number_within lowest highest)
+        (matched_values (rows_in matches.now) name.now)) result }
 {
     match text_of(matches, name) {
         Some(value) => number_within(lowest, highest, value).ok_or(WordsError::BadWords),
@@ -292,7 +294,8 @@ pub fn words(alloc: Global, words: &[String]) -> Result<Job, WordsError>
     ensures ok { IfOk result (λ job. job_of (map string_bytes words.now) ≡ Some job) }
     // What it asks for keeps its limits.
     ensures within { IfOk result (λ job. KeepsLimits (reading_of job)) }
-    ensures bad_words { IsErrOf result WordsError.BadWords → job_of (map string_bytes words.now) ≡ None }
+    ensures bad_words { IsErrOf result WordsError.BadWords
+        → job_of (map string_bytes words.now) ≡ None }
 {
     if any_has_one_dash(words) {
         return Err(WordsError::BadWords);

@@ -8,5 +8,6 @@ ghost use Rattle.command_words.specs.Readings.{reading_of};
 
 /// What words ask for keeps its limits.
 pub fn jobs_keep_their_limits()
-    ensures { (words : List (List ℕ)) (job : Job) → job_of words ≡ Some job → KeepsLimits (reading_of job) }
+    ensures { (words : List (List ℕ)) (job : Job) → job_of words ≡ Some job
+        → KeepsLimits (reading_of job) }
 {}

@@ -2,7 +2,7 @@
 use Rattle.std.proofs.Common.{◌≡◌, ℕ, ◌==◌, Bool, true, false, not, cond, List, [], ◌∷◌, ◌++◌, filter, Option, Some, None, option_map, unwrap_or, refl, sym, ◌∙◌, ap, append-nil}
 use Rattle.std.proofs.lemmas.List.Elements.{filter-append}
 use Rattle.std.specs.List.{AllByRecursion}
-use Rattle.model_core.specs.Run.Pending.{Entry, EntryAndRest, sooner, staying, next_or_first, next_among, is_of, is_with, without_next, without_all}
+use Rattle.model_core.specs.Run.Pending.{Entry, EntryAndRest, sooner, staying, next_or_first, next_among, is_of, is_event_with, without_next, without_all}
 use Rattle.conflict_report.proofs.OtherVertices.{other-vertex, same-vertex, other-with_values}
 use Rattle.conflict_report.proofs.ListEdits.{ListEdit, AddsEvent, CutsNext, CutsEqual, CutsAll, deed_vertex, after_edit, after_edits}
 
@@ -122,13 +122,13 @@ module _ (vertex : ℕ) where
   after_edit-elsewhere (AddsEvent e) away pending =
       filter-append (is_of vertex) pending (e ∷ []) ∙ ap (λ (c : Bool). of_vertex pending ++ cond c (e ∷ []) []) away ∙ append-nil (of_vertex pending)
   after_edit-elsewhere (CutsNext v) away pending = without_next-outside (is_of vertex) (is_of v) (λ e own. other-vertex vertex v e.vertex away own) pending
-  after_edit-elsewhere (CutsEqual v values) away pending = without_next-outside (is_of vertex) (is_with v values) (λ e own. other-with_values v values e (other-vertex vertex v e.vertex away own)) pending
+  after_edit-elsewhere (CutsEqual v values) away pending = without_next-outside (is_of vertex) (is_event_with v values) (λ e own. other-with_values v values e (other-vertex vertex v e.vertex away own)) pending
   after_edit-elsewhere (CutsAll v) away pending = without_all-outside (is_of vertex) (is_of v) (λ e own. other-vertex vertex v e.vertex away own) pending
 
   after_edit-here : (x : ListEdit) → Here x → (pending : List Entry) → of_vertex (after_edit x pending) ≡ after_edit x (of_vertex pending)
   after_edit-here (AddsEvent e) own pending = filter-append (is_of vertex) pending (e ∷ []) ∙ ap (λ (c : Bool). of_vertex pending ++ cond c (e ∷ []) []) own
   after_edit-here (CutsNext v) own pending = without_next-filter (is_of vertex) (is_of v) (λ e apart. same-vertex vertex v e.vertex own apart) pending
-  after_edit-here (CutsEqual v values) own pending = without_next-filter (is_of vertex) (is_with v values) (λ e apart. other-with_values v values e (same-vertex vertex v e.vertex own apart)) pending
+  after_edit-here (CutsEqual v values) own pending = without_next-filter (is_of vertex) (is_event_with v values) (λ e apart. other-with_values v values e (same-vertex vertex v e.vertex own apart)) pending
   after_edit-here (CutsAll v) own pending = filters-turned (is_of vertex) (λ e. not (is_of v e)) pending
 
   -- a deed does the same to lists that hold the same events of the vertex

@@ -4,7 +4,7 @@ use Rattle.model_core.specs.EventGraph.{EventGraph, EventVertex, EventEdge, Edge
 use Rattle.model_core.specs.Run.State.{State}
 use Rattle.model_core.specs.Run.Value.{OrFault, ◌>>=◌, in_turn, value_of, is_one}
 use Rattle.model_core.specs.Run.Changes.{ChangeState, make_change}
-use Rattle.model_core.specs.Run.Pending.{Entry, EntryAndRest, is_of, is_with, without_next, without_all}
+use Rattle.model_core.specs.Run.Pending.{Entry, EntryAndRest, is_of, is_event_with, without_next, without_all}
 use Rattle.model_core.specs.Run.Edges.{EdgeState, delay_of, carried_values, act, treat_edge}
 use Rattle.model_core.specs.Run.Step.{Configuration, receive, occur}
 use Rattle.run_laws.proofs.Spared.InTurn.{result_by, bind-after, bind-within}
@@ -34,7 +34,7 @@ CutsOthers vertex (CutsAll v) = (v == vertex) ≡ false
 abbrev pub after_edit : ListEdit → List Entry → List Entry
 after_edit (AddsEvent e) pending = pending ++ e ∷ []
 after_edit (CutsNext vertex) pending = without_next (is_of vertex) pending
-after_edit (CutsEqual vertex values) pending = without_next (is_with vertex values) pending
+after_edit (CutsEqual vertex values) pending = without_next (is_event_with vertex values) pending
 after_edit (CutsAll vertex) pending = without_all (is_of vertex) pending
 
 -- one after the other

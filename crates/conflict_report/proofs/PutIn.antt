@@ -3,7 +3,7 @@
 use Rattle.std.proofs.Common.{◌≡◌, ℕ, zero, suc, ◌+◌, Bool, true, false, not, cond, List, [], ◌∷◌, ◌++◌, Option, Some, None, option_map, unwrap_or, slice_get, take, refl, sym, ap, subst, arith}
 use Rattle.std.specs.List.{AllByRecursion, remove}
 use Rattle.std.proofs.lemmas.List.Sums.{sum_by-cons}
-use Rattle.model_core.specs.Run.Pending.{Entry, EntryAndRest, sooner, staying, next_or_first, next_among, is_of, is_with, without_next, without_all}
+use Rattle.model_core.specs.Run.Pending.{Entry, EntryAndRest, sooner, staying, next_or_first, next_among, is_of, is_event_with, without_next, without_all}
 use Rattle.model_core.specs.Conflicts.Perform.{events_ahead, place_with_ahead}
 use Rattle.conflict_report.proofs.OtherVertices.{other-vertex, other-with_values}
 use Rattle.conflict_report.proofs.ListEdits.{ListEdit, AddsEvent, CutsNext, CutsEqual, CutsAll, CutsOthers, after_edit, after_edits}
@@ -121,7 +121,7 @@ module _ (b : Entry) (vertex : ℕ) where
     after_edit-put_in : (x : ListEdit) → CutsOthers vertex x → {n : ℕ} {xs ys : List Entry} → PutIn n xs ys → PutIn n (after_edit x xs) (after_edit x ys)
     after_edit-put_in (AddsEvent e) cuts p = put_in-append p (e ∷ [])
     after_edit-put_in (CutsNext v) cuts p = without_next-put_in b_own (is_of v) (λ e own. other-vertex vertex v e.vertex cuts own) p
-    after_edit-put_in (CutsEqual v values) cuts p = without_next-put_in b_own (is_with v values) (λ e own. other-with_values v values e (other-vertex vertex v e.vertex cuts own)) p
+    after_edit-put_in (CutsEqual v values) cuts p = without_next-put_in b_own (is_event_with v values) (λ e own. other-with_values v values e (other-vertex vertex v e.vertex cuts own)) p
     after_edit-put_in (CutsAll v) cuts p = without_all-put_in b_own (is_of v) (λ e own. other-vertex vertex v e.vertex cuts own) p
 
     after_edits-put_in : (deeds : List ListEdit) → AllByRecursion (CutsOthers vertex) deeds → {n : ℕ} {xs ys : List Entry} → PutIn n xs ys → PutIn n (after_edits deeds xs) (after_edits deeds ys)

@@ -44,7 +44,8 @@ fn common(
     second: &Holders,
     vertex: usize,
 ) -> Result<VertexSet, NoMemory>
-    ensures { IfOk result (λ found. (j : ℕ) → has_vertex found j ≡ hold_common first.now second.now vertex j) }
+    ensures { IfOk result
+        (λ found. (j : ℕ) → has_vertex found j ≡ hold_common first.now second.now vertex j) }
 {
     let mut found = VertexSet::new(alloc);
     first.add_common(second, vertex, &mut found)?;
@@ -58,7 +59,11 @@ fn common_either_way(
     second: &Holders,
     vertex: usize,
 ) -> Result<VertexSet, NoMemory>
-    ensures { IfOk result (λ found. (j : ℕ) → has_vertex found j ≡ (hold_common first.now second.now vertex j || hold_common second.now first.now vertex j)) }
+    ensures { IfOk result
+        (λ found. (j : ℕ)
+        → has_vertex found j
+        ≡ (hold_common first.now second.now vertex j
+        || hold_common second.now first.now vertex j)) }
 {
     let mut found = common(alloc, first, second, vertex)?;
     second.add_common(first, vertex, &mut found)?;
@@ -92,7 +97,10 @@ impl ConflictTables {
     /// Notes what the vertex of the model at this place touches.
     fn note_vertex(&mut self, alloc: Global, model: &Model, place: usize) -> Result<(), NoMemory>
         requires exists { place < length (graph_of model.now).vertices }
-        ensures { OnOk result (NotedAt place (after_vertex place (vertex_at (graph_of model.now) place) nothing_touched) self.old self.new) }
+        ensures { OnOk result
+            (NotedAt place
+            (after_vertex place
+            (vertex_at (graph_of model.now) place) nothing_touched) self.old self.new) }
     {
         let mut touched = TouchedNumbers::new(alloc);
         touched.add_vertex(place, &model.vertices.as_slice()[place])?;
@@ -102,7 +110,8 @@ impl ConflictTables {
     /// Notes what the vertices of the model touch.
     fn note_vertices(&mut self, alloc: Global, model: &Model) -> Result<(), NoMemory>
         requires none { NotedBefore (graph_of model.now) 0 self.old }
-        ensures { OnOk result (NotedBefore (graph_of model.now) (length (graph_of model.now).vertices) self.new) }
+        ensures { OnOk result
+            (NotedBefore (graph_of model.now) (length (graph_of model.now).vertices) self.new) }
     {
         for place in 0..model.vertices.len() {
             self.note_vertex(alloc, model, place)?;
@@ -112,7 +121,8 @@ impl ConflictTables {
 
     /// The tables of a model.
     pub(crate) fn of(alloc: Global, model: &Model) -> Result<ConflictTables, NoMemory>
-        ensures { IfOk result (NotedBefore (graph_of model.now) (length (graph_of model.now).vertices)) }
+        ensures { IfOk result
+            (NotedBefore (graph_of model.now) (length (graph_of model.now).vertices)) }
     {
         let mut tables = ConflictTables {
             by_priority: holders_of_priorities(alloc, model)?,

@@ -92,7 +92,9 @@ impl Holders {
 
     /// Puts the vertices that hold the number into the set.
     fn add_holders(&self, number: usize, found: &mut VertexSet) -> Result<(), NoMemory>
-        ensures { OnOk result ((j : ℕ) → has_vertex found.new j ≡ (has_vertex found.old j || holds self.now number j)) }
+        ensures { OnOk result
+            ((j : ℕ) → has_vertex found.new j
+            ≡ (has_vertex found.old j || holds self.now number j)) }
     {
         match self.sets.get(number) {
             Some(set) => found.put_all(set),
@@ -108,7 +110,10 @@ impl Holders {
         vertex: usize,
         found: &mut VertexSet,
     ) -> Result<(), NoMemory>
-        ensures { OnOk result ((j : ℕ) → has_vertex found.new j ≡ (has_vertex found.old j || holds self.now number vertex && holds others.now number j)) }
+        ensures { OnOk result
+            ((j : ℕ) → has_vertex found.new j
+            ≡ (has_vertex found.old j || holds self.now number vertex
+            && holds others.now number j)) }
     {
         if self.holds(number, vertex) {
             others.add_holders(number, found)
@@ -124,7 +129,9 @@ impl Holders {
         vertex: usize,
         found: &mut VertexSet,
     ) -> Result<(), NoMemory>
-        ensures { OnOk result ((j : ℕ) → has_vertex found.new j ≡ (has_vertex found.old j || hold_common self.now others.now vertex j)) }
+        ensures { OnOk result
+            ((j : ℕ) → has_vertex found.new j
+            ≡ (has_vertex found.old j || hold_common self.now others.now vertex j)) }
     {
         for number in 0..self.len() {
             self.add_if_held(others, number, vertex, found)?;

@@ -15,10 +15,13 @@ ghost use Rattle.model_core.specs.Conflicts.Orders.{HasOwnPriority, Simultaneous
 /// Two simultaneous events of vertices that aren't in conflict may occur in either order: both orders fault, or both give
 /// the same, but for the order of what is pending. The second one is still pending when the first has occurred.
 pub fn events_without_conflict_commute()
-    ensures commute { (g : EventGraph) (seed : ℕ) (c : Configuration) (first second : ℕ) (a b : Entry)
+    ensures commute { (g : EventGraph) (seed : ℕ) (c : Configuration) (first second : ℕ)
+        (a b : Entry)
         → Simultaneous g c.pending first second a b → in_conflict g a.vertex b.vertex ≡ false
-        → Commute (after_both_events g seed c first second) (after_both_events g seed c second first) }
-    ensures stays { (g : EventGraph) (seed : ℕ) (c d : Configuration) (first second : ℕ) (a b : Entry)
+        → Commute (after_both_events g seed c first second)
+        (after_both_events g seed c second first) }
+    ensures stays { (g : EventGraph) (seed : ℕ) (c d : Configuration) (first second : ℕ)
+        (a b : Entry)
         → Simultaneous g c.pending first second a b → in_conflict g a.vertex b.vertex ≡ false
         → perform g seed c first ≡ Some (Ok d) → StaysPending g seed c first second b d }
 {}
@@ -26,10 +29,13 @@ pub fn events_without_conflict_commute()
 /// Each event that is pending in a run has a priority of its vertex: the first one has, and a step that goes on keeps it so. So it
 /// is at each moment that a run reaches.
 pub fn pending_events_have_own_priorities()
-    ensures begins { (g : EventGraph) (starts : List ℤ) → AllByRecursion (HasOwnPriority g) (start g starts).now.pending }
+    ensures begins { (g : EventGraph) (starts : List ℤ)
+        → AllByRecursion (HasOwnPriority g) (start g starts).now.pending }
     ensures goes_on { (g : EventGraph) (seed until : ℕ) (m later : Moment) (notes : List Note)
-        → AllByRecursion (HasOwnPriority g) m.now.pending → next_move g seed until m ≡ Goes notes later
+        → AllByRecursion (HasOwnPriority g) m.now.pending
+        → next_move g seed until m ≡ Goes notes later
         → AllByRecursion (HasOwnPriority g) later.now.pending }
     ensures reached { (g : EventGraph) (seed until n : ℕ) (starts : List ℤ) (r : Reached Moment)
-        → reached_from g seed until n (start g starts) ≡ Some r → AllByRecursion (HasOwnPriority g) r.moment.now.pending }
+        → reached_from g seed until n (start g starts) ≡ Some r
+        → AllByRecursion (HasOwnPriority g) r.moment.now.pending }
 {}

@@ -32,7 +32,8 @@ fn edge_passes<T: NumberTest>(test: &T, edge: &Edge, vertex: usize) -> bool
 
 /// Whether one of the edges does so.
 fn one_edge_passes<T: NumberTest>(test: &T, edges: &[Edge], vertex: usize) -> bool
-    ensures { result ≡ list_any (T.test test.now) (flat_map (edge_priorities vertex) (map edge_of edges.now)) }
+    ensures { result
+        ≡ list_any (T.test test.now) (flat_map (edge_priorities vertex) (map edge_of edges.now)) }
 {
     for edge in edges {
         if edge_passes(test, edge, vertex) {
@@ -44,7 +45,9 @@ fn one_edge_passes<T: NumberTest>(test: &T, edges: &[Edge], vertex: usize) -> bo
 
 /// Whether an edge of one of the vertices does so.
 fn one_vertex_passes<T: NumberTest>(test: &T, vertices: &[Vertex], vertex: usize) -> bool
-    ensures { result ≡ list_any (T.test test.now) (flat_map (vertex_priorities vertex) (map vertex_of vertices.now)) }
+    ensures { result
+        ≡ list_any (T.test test.now)
+        (flat_map (vertex_priorities vertex) (map vertex_of vertices.now)) }
 {
     for from in vertices {
         if one_edge_passes(test, from.edges.as_slice(), vertex) {
@@ -85,7 +88,8 @@ impl NumberTest for Priorities<'_> {
 
 /// Whether two vertices, by their places, have a priority in common.
 pub(crate) fn meet(model: &Model, a: usize, b: usize) -> bool
-    ensures { result ≡ in_common (priorities_of (graph_of model.now) a) (priorities_of (graph_of model.now) b) }
+    ensures { result
+        ≡ in_common (priorities_of (graph_of model.now) a) (priorities_of (graph_of model.now) b) }
 {
     one_priority_passes(&Priorities { model, vertex: b }, model, a)
 }

@@ -30,7 +30,8 @@ fn add_from(
     tables: &ConflictTables,
     a: usize,
 ) -> Result<(), NoMemory>
-    requires tables { NotedBefore (graph_of model.now) (length (graph_of model.now).vertices) tables.now }
+    requires tables { NotedBefore (graph_of model.now)
+        (length (graph_of model.now).vertices) tables.now }
     requires exists { a < length (graph_of model.now).vertices }
     ensures { OnOk result (pairs.new ≡ pairs.old ++ conflicts_from (graph_of model.now) a) }
 {

@@ -27,7 +27,8 @@ fn own_priority(form: &EdgeForm) -> Option<u8>
 
 /// Notes that the target of an edge has the priority with which the edge schedules, if it does.
 fn note_edge(holders: &mut Holders, alloc: Global, edge: &Edge) -> Result<(), NoMemory>
-    ensures { OnOk result (HoldMore (λ j. edge_priorities j (edge_of edge.now)) holders.old holders.new) }
+    ensures { OnOk result
+        (HoldMore (λ j. edge_priorities j (edge_of edge.now)) holders.old holders.new) }
 {
     match own_priority(&edge.form) {
         Some(priority) => holders.put(alloc, usize::from(priority), edge.target),
@@ -37,7 +38,9 @@ fn note_edge(holders: &mut Holders, alloc: Global, edge: &Edge) -> Result<(), No
 
 /// Notes so the priorities of these edges.
 fn note_edges(holders: &mut Holders, alloc: Global, edges: &[Edge]) -> Result<(), NoMemory>
-    ensures { OnOk result (HoldMore (λ j. flat_map (edge_priorities j) (map edge_of edges.now)) holders.old holders.new) }
+    ensures { OnOk result
+        (HoldMore (λ j.
+        flat_map (edge_priorities j) (map edge_of edges.now)) holders.old holders.new) }
 {
     for edge in edges {
         note_edge(holders, alloc, edge)?;
@@ -47,7 +50,9 @@ fn note_edges(holders: &mut Holders, alloc: Global, edges: &[Edge]) -> Result<()
 
 /// Notes so those of the edges of these vertices.
 fn note_vertices(holders: &mut Holders, alloc: Global, vertices: &[Vertex]) -> Result<(), NoMemory>
-    ensures { OnOk result (HoldMore (λ j. flat_map (vertex_priorities j) (map vertex_of vertices.now)) holders.old holders.new) }
+    ensures { OnOk result
+        (HoldMore (λ j.
+        flat_map (vertex_priorities j) (map vertex_of vertices.now)) holders.old holders.new) }
 {
     for vertex in vertices {
         note_edges(holders, alloc, vertex.edges.as_slice())?;

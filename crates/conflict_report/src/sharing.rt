@@ -70,7 +70,9 @@ fn names(edges: &[Edge], place: usize) -> bool
 
 /// Whether the edge cancels events of the vertex at this place, or of one that an edge of it names.
 fn cuts(edge: &Edge, other: &Vertex, place: usize) -> bool
-    ensures { result ≡ in_common (edge_cancelled (edge_of edge.now)) (place ∷ named_vertices (vertex_of other.now)) }
+    ensures { result
+        ≡ in_common (edge_cancelled (edge_of edge.now))
+        (place ∷ named_vertices (vertex_of other.now)) }
 {
     edge.form.is_cancelling()
         && (place == edge.target || names(other.edges.as_slice(), edge.target))
@@ -78,7 +80,9 @@ fn cuts(edge: &Edge, other: &Vertex, place: usize) -> bool
 
 /// Whether one of these edges does so.
 fn one_cuts(edges: &[Edge], other: &Vertex, place: usize) -> bool
-    ensures { result ≡ in_common (flat_map edge_cancelled (map edge_of edges.now)) (place ∷ named_vertices (vertex_of other.now)) }
+    ensures { result
+        ≡ in_common (flat_map edge_cancelled (map edge_of edges.now))
+        (place ∷ named_vertices (vertex_of other.now)) }
 {
     for edge in edges {
         if cuts(edge, other, place) {

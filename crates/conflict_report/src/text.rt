@@ -28,7 +28,8 @@ fn reasons_text(reasons: Reasons) -> &'static [u8]
 
 /// Adds the line of a pair: the names of both vertices, and the reasons.
 fn put_line(out: &mut Vec<u8>, model: &Model, pair: Pair) -> Result<(), NoMemory>
-    ensures { OnOk result (out.new.items ≡ out.old.items ++ conflict_line (graph_of model.now) pair) }
+    ensures { OnOk result
+        (out.new.items ≡ out.old.items ++ conflict_line (graph_of model.now) pair) }
 {
     let first = model.vertex_name(pair.a);
     let second = model.vertex_name(pair.b);
@@ -38,7 +39,8 @@ fn put_line(out: &mut Vec<u8>, model: &Model, pair: Pair) -> Result<(), NoMemory
 
 /// Adds the lines of pairs.
 fn put_lines(out: &mut Vec<u8>, model: &Model, pairs: &[Pair]) -> Result<(), NoMemory>
-    ensures { OnOk result (out.new.items ≡ out.old.items ++ flat_map (conflict_line (graph_of model.now)) pairs.now) }
+    ensures { OnOk result
+        (out.new.items ≡ out.old.items ++ flat_map (conflict_line (graph_of model.now)) pairs.now) }
 {
     for pair in pairs {
         put_line(out, model, *pair)?;

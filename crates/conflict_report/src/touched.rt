@@ -32,7 +32,8 @@ impl Model for TouchedNumbers {
 
 /// Adds the stream from which a delay is drawn, if it is.
 fn add_delay_stream(streams: &mut Vec<usize>, delay: &Delay) -> Result<(), NoMemory>
-    ensures { OnOk result (streams.new.items ≡ streams.old.items ++ delay_streams (edge_delay_of delay.now)) }
+    ensures { OnOk result
+        (streams.new.items ≡ streams.old.items ++ delay_streams (edge_delay_of delay.now)) }
 {
     match delay {
         Delay::Fixed(_) => Ok(()),

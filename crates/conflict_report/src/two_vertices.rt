@@ -11,7 +11,8 @@ use model_core::{Model, Reasons};
 /// The reasons for which two vertices, by their places from 0, are in conflict, and whether they meet. They may be one and
 /// the same.
 pub fn conflict(model: &Model, a: usize, b: usize) -> Reasons
-    requires exist { (a < length (graph_of model.now).vertices) × (b < length (graph_of model.now).vertices) }
+    requires exist { (a < length (graph_of model.now).vertices)
+        × (b < length (graph_of model.now).vertices) }
     ensures { result ≡ reasons_of (graph_of model.now) a b }
 {
     let first = &model.vertices.as_slice()[a];

@@ -24,7 +24,8 @@ impl Model for VertexSet {
 /// Adds to each of the words the bits of the other word at its place.
 fn join(words: &mut [u64], others: &[u64])
     requires long { length others.now ≤ length words.old }
-    ensures { (i : ℕ) → slice_index words.new i ≡ bit_or (slice_index words.old i) (slice_index others.now i) }
+    ensures { (i : ℕ)
+        → slice_index words.new i ≡ bit_or (slice_index words.old i) (slice_index others.now i) }
 {
     for (i, other) in others.iter().enumerate() {
         words[i] |= *other;
@@ -64,7 +65,8 @@ impl VertexSet {
 
     /// Puts the vertex at this place into the set.
     pub(crate) fn put(&mut self, place: usize) -> Result<(), NoMemory>
-        ensures { OnOk result ((j : ℕ) → has_vertex self.new j ≡ (place == j || has_vertex self.old j)) }
+        ensures { OnOk result
+            ((j : ℕ) → has_vertex self.new j ≡ (place == j || has_vertex self.old j)) }
     {
         self.grow(place / 64 + 1)?;
         self.words[place / 64] |= 1 << (place % 64);
@@ -73,7 +75,8 @@ impl VertexSet {
 
     /// Puts the vertices of another set into this one.
     pub(crate) fn put_all(&mut self, others: &VertexSet) -> Result<(), NoMemory>
-        ensures { OnOk result ((j : ℕ) → has_vertex self.new j ≡ (has_vertex self.old j || has_vertex others.now j)) }
+        ensures { OnOk result
+            ((j : ℕ) → has_vertex self.new j ≡ (has_vertex self.old j || has_vertex others.now j)) }
     {
         self.grow(others.words.len())?;
         join(self.words.as_mut_slice(), others.words.as_slice());

@@ -20,7 +20,10 @@ fn put_becoming(
     target: &Target,
     value: &Expr,
 ) -> Result<(), NoMemory>
-    ensures { OnOk result (out.new.items ≡ out.old.items ++ becomes_phrase (graph_of model.now) (location_of target.now, expression_of value.now)) }
+    ensures { OnOk result
+        (out.new.items
+        ≡ out.old.items
+        ++ becomes_phrase (graph_of model.now) (location_of target.now, expression_of value.now)) }
 {
     put_target(alloc, out, model, target)?;
     put_bytes(out, b" becomes ")?;
@@ -36,7 +39,13 @@ fn put_becoming_at(
     values: &[Expr],
     place: usize,
 ) -> Result<(), NoMemory>
-    ensures { OnOk result (out.new.items ≡ out.old.items ++ option_map_or (λ (e : Expression). codes " and " ++ becomes_phrase (graph_of model.now) (location_of target.now, e)) (slice_get (map expression_of values.now) place) []) }
+    ensures { OnOk result
+        (out.new.items
+        ≡ out.old.items
+        ++ option_map_or
+        (λ (e : Expression).
+        codes " and " ++ becomes_phrase (graph_of model.now) (location_of target.now, e))
+        (slice_get (map expression_of values.now) place) []) }
 {
     match values.get(place) {
         Some(value) => {
@@ -55,7 +64,12 @@ fn put_later_becoming(
     targets: &[Target],
     values: &[Expr],
 ) -> Result<(), NoMemory>
-    ensures { OnOk result (out.new.items ≡ out.old.items ++ after_ands (map (becomes_phrase (graph_of model.now)) (zip (map location_of targets.now) (map expression_of values.now)))) }
+    ensures { OnOk result
+        (out.new.items
+        ≡ out.old.items
+        ++ after_ands
+        (map (becomes_phrase (graph_of model.now))
+        (zip (map location_of targets.now) (map expression_of values.now)))) }
 {
     for (place, target) in targets.iter().enumerate() {
         put_becoming_at(alloc, out, model, target, values, place)?;
@@ -71,7 +85,12 @@ fn put_all_becoming(
     targets: &[Target],
     values: &[Expr],
 ) -> Result<(), NoMemory>
-    ensures { OnOk result (out.new.items ≡ out.old.items ++ joined_by_and (map (becomes_phrase (graph_of model.now)) (zip (map location_of targets.now) (map expression_of values.now)))) }
+    ensures { OnOk result
+        (out.new.items
+        ≡ out.old.items
+        ++ joined_by_and
+        (map (becomes_phrase (graph_of model.now))
+        (zip (map location_of targets.now) (map expression_of values.now)))) }
 {
     let [target, later_targets @ ..] = targets else {
         return Ok(());
@@ -90,7 +109,9 @@ fn put_effect(
     model: &Model,
     change: &Change,
 ) -> Result<(), NoMemory>
-    ensures { OnOk result (out.new.items ≡ out.old.items ++ change_phrase (graph_of model.now) (change_of change.now)) }
+    ensures { OnOk result
+        (out.new.items
+        ≡ out.old.items ++ change_phrase (graph_of model.now) (change_of change.now)) }
 {
     match change {
         Change::Set { targets, values } => {
@@ -116,7 +137,9 @@ fn put_change(
     name: &[u8],
     change: &Change,
 ) -> Result<(), NoMemory>
-    ensures { OnOk result (out.new.items ≡ out.old.items ++ change_sentence (graph_of model.now) name.now (change_of change.now)) }
+    ensures { OnOk result
+        (out.new.items
+        ≡ out.old.items ++ change_sentence (graph_of model.now) name.now (change_of change.now)) }
 {
     put_texts(out, &[b"When ", name, b" occurs, "])?;
     put_effect(alloc, out, model, change)?;
@@ -131,7 +154,10 @@ pub(crate) fn put_changes(
     name: &[u8],
     changes: &[Change],
 ) -> Result<(), NoMemory>
-    ensures { OnOk result (out.new.items ≡ out.old.items ++ flat_map (change_sentence (graph_of model.now) name.now) (map change_of changes.now)) }
+    ensures { OnOk result
+        (out.new.items
+        ≡ out.old.items
+        ++ flat_map (change_sentence (graph_of model.now) name.now) (map change_of changes.now)) }
 {
     for change in changes {
         put_change(alloc, out, model, name, change)?;

@@ -11,7 +11,8 @@ use sig_base::{NoMemory, Row, Table, put_bytes, put_counted, put_number, put_sig
 
 /// Adds what the sentence of a variable is about: the variable, or the array with its number of cells.
 fn put_subject(out: &mut Vec<u8>, var: &Var) -> Result<(), NoMemory>
-    ensures { OnOk result (out.new.items ≡ out.old.items ++ variable_phrase var.now.name var.now.size) }
+    ensures { OnOk result
+        (out.new.items ≡ out.old.items ++ variable_phrase var.now.name var.now.size) }
 {
     if var.size == 0 {
         put_texts(out, &[b"The variable ", var.name.as_slice()])
@@ -53,7 +54,8 @@ fn put_range(out: &mut Vec<u8>, lo: i64, hi: i64, clip: bool) -> Result<(), NoMe
 
 /// Adds what a variable holds, and its initial value.
 fn put_held(out: &mut Vec<u8>, var: &Var) -> Result<(), NoMemory>
-    ensures { OnOk result (out.new.items ≡ out.old.items ++ held_phrase (variable_of var.now) var.now.kind) }
+    ensures { OnOk result
+        (out.new.items ≡ out.old.items ++ held_phrase (variable_of var.now) var.now.kind) }
 {
     match var.kind {
         Kind::Truth => {
@@ -75,7 +77,8 @@ fn put_held(out: &mut Vec<u8>, var: &Var) -> Result<(), NoMemory>
 
 /// Adds the sentence of a variable.
 fn put_variable(out: &mut Vec<u8>, var: &Var) -> Result<(), NoMemory>
-    ensures { OnOk result (out.new.items ≡ out.old.items ++ variable_sentence (variable_of var.now)) }
+    ensures { OnOk result
+        (out.new.items ≡ out.old.items ++ variable_sentence (variable_of var.now)) }
 {
     put_subject(out, var)?;
     put_held(out, var)?;
@@ -84,7 +87,8 @@ fn put_variable(out: &mut Vec<u8>, var: &Var) -> Result<(), NoMemory>
 
 /// Adds the sentences of variables.
 pub(crate) fn put_variables(out: &mut Vec<u8>, vars: &[Var]) -> Result<(), NoMemory>
-    ensures { OnOk result (out.new.items ≡ out.old.items ++ flat_map variable_sentence (map variable_of vars.now)) }
+    ensures { OnOk result
+        (out.new.items ≡ out.old.items ++ flat_map variable_sentence (map variable_of vars.now)) }
 {
     for var in vars {
         put_variable(out, var)?;
@@ -102,7 +106,9 @@ fn put_row(out: &mut Vec<u8>, row: Row) -> Result<(), NoMemory>
 
 /// Adds values of a table with their weights, each after a comma and a space.
 fn put_later_rows(out: &mut Vec<u8>, rows: &[Row]) -> Result<(), NoMemory>
-    ensures { OnOk result (out.new.items ≡ out.old.items ++ after_commas (map row_phrase (map weighted_of rows.now))) }
+    ensures { OnOk result
+        (out.new.items
+        ≡ out.old.items ++ after_commas (map row_phrase (map weighted_of rows.now))) }
 {
     for row in rows {
         put_bytes(out, b", ")?;
@@ -113,7 +119,8 @@ fn put_later_rows(out: &mut Vec<u8>, rows: &[Row]) -> Result<(), NoMemory>
 
 /// Adds values of a table with their weights, with a comma and a space between two.
 fn put_rows(out: &mut Vec<u8>, rows: &[Row]) -> Result<(), NoMemory>
-    ensures { OnOk result (out.new.items ≡ out.old.items ++ joined (map row_phrase (map weighted_of rows.now))) }
+    ensures { OnOk result
+        (out.new.items ≡ out.old.items ++ joined (map row_phrase (map weighted_of rows.now))) }
 {
     let [first, rest @ ..] = rows else {
         return Ok(());
@@ -133,7 +140,8 @@ fn put_table(out: &mut Vec<u8>, table: &Table) -> Result<(), NoMemory>
 
 /// Adds the sentences of tables.
 pub(crate) fn put_tables(out: &mut Vec<u8>, tables: &[Table]) -> Result<(), NoMemory>
-    ensures { OnOk result (out.new.items ≡ out.old.items ++ flat_map table_sentence (map table_of tables.now)) }
+    ensures { OnOk result
+        (out.new.items ≡ out.old.items ++ flat_map table_sentence (map table_of tables.now)) }
 {
     for table in tables {
         put_table(out, table)?;
@@ -153,7 +161,10 @@ fn watched_name(model: &Model, watch: Watch) -> &[u8]
 
 /// Adds the names of what is watched, each after a comma and a space.
 fn put_later_watched(out: &mut Vec<u8>, model: &Model, watch: &[Watch]) -> Result<(), NoMemory>
-    ensures { OnOk result (out.new.items ≡ out.old.items ++ after_commas (map (watched_name (graph_of model.now)) (map watched_of watch.now))) }
+    ensures { OnOk result
+        (out.new.items
+        ≡ out.old.items
+        ++ after_commas (map (watched_name (graph_of model.now)) (map watched_of watch.now))) }
 {
     for watched in watch {
         put_texts(out, &[b", ", watched_name(model, *watched)])?;
@@ -163,7 +174,10 @@ fn put_later_watched(out: &mut Vec<u8>, model: &Model, watch: &[Watch]) -> Resul
 
 /// Adds the names of what is watched, with a comma and a space between two.
 fn put_watched(out: &mut Vec<u8>, model: &Model, watch: &[Watch]) -> Result<(), NoMemory>
-    ensures { OnOk result (out.new.items ≡ out.old.items ++ joined (map (watched_name (graph_of model.now)) (map watched_of watch.now))) }
+    ensures { OnOk result
+        (out.new.items
+        ≡ out.old.items
+        ++ joined (map (watched_name (graph_of model.now)) (map watched_of watch.now))) }
 {
     let [first, rest @ ..] = watch else {
         return Ok(());
@@ -174,7 +188,10 @@ fn put_watched(out: &mut Vec<u8>, model: &Model, watch: &[Watch]) -> Result<(), 
 
 /// Adds the sentence of what is watched.
 pub(crate) fn put_watch(out: &mut Vec<u8>, model: &Model, watch: &[Watch]) -> Result<(), NoMemory>
-    ensures { OnOk result (out.new.items ≡ out.old.items ++ watch_sentence (map (watched_name (graph_of model.now)) (map watched_of watch.now))) }
+    ensures { OnOk result
+        (out.new.items
+        ≡ out.old.items
+        ++ watch_sentence (map (watched_name (graph_of model.now)) (map watched_of watch.now))) }
 {
     if watch.is_empty() {
         return put_bytes(out, b"Nothing is watched.\n");

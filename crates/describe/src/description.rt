@@ -20,7 +20,9 @@ fn put_model_name(out: &mut Vec<u8>, model: &Model) -> Result<(), NoMemory>
 
 /// Adds the sentence of the first event.
 fn put_first_event(out: &mut Vec<u8>, model: &Model) -> Result<(), NoMemory>
-    ensures { OnOk result (out.new.items ≡ out.old.items ++ first_event_sentence (vertex_name (graph_of model.now) 0)) }
+    ensures { OnOk result
+        (out.new.items
+        ≡ out.old.items ++ first_event_sentence (vertex_name (graph_of model.now) 0)) }
 {
     put_texts(out, &[b"The first event is ", model.vertex_name(0), b".\n"])
 }

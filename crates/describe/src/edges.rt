@@ -19,7 +19,9 @@ fn put_condition(
     model: &Model,
     condition: &Expr,
 ) -> Result<(), NoMemory>
-    ensures { OnOk result (out.new.items ≡ out.old.items ++ condition_phrase (graph_of model.now) (expression_of condition.now)) }
+    ensures { OnOk result
+        (out.new.items
+        ≡ out.old.items ++ condition_phrase (graph_of model.now) (expression_of condition.now)) }
 {
     if let Expr::Truth(true) = condition {
         return Ok(());
@@ -31,7 +33,9 @@ fn put_condition(
 
 /// Adds a delay.
 fn put_delay(alloc: Global, out: &mut Vec<u8>, model: &Model, delay: &Delay) -> Result<(), NoMemory>
-    ensures { OnOk result (out.new.items ≡ out.old.items ++ delay_phrase (graph_of model.now) (edge_delay_of delay.now)) }
+    ensures { OnOk result
+        (out.new.items
+        ≡ out.old.items ++ delay_phrase (graph_of model.now) (edge_delay_of delay.now)) }
 {
     match delay {
         Delay::Fixed(expr) => {
@@ -53,7 +57,11 @@ fn put_values(
     words: &[u8],
     values: &[Expr],
 ) -> Result<(), NoMemory>
-    ensures { OnOk result (out.new.items ≡ out.old.items ++ values_phrase words.now (expression_texts (graph_of model.now) (map expression_of values.now))) }
+    ensures { OnOk result
+        (out.new.items
+        ≡ out.old.items
+        ++ values_phrase words.now
+        (expression_texts (graph_of model.now) (map expression_of values.now))) }
 {
     if values.is_empty() {
         return Ok(());
@@ -71,7 +79,12 @@ fn put_scheduling(
     delay: &Delay,
     priority: u8,
 ) -> Result<(), NoMemory>
-    ensures { OnOk result (out.new.items ≡ out.old.items ++ deed_phrase (graph_of model.now) (Schedule (edge_delay_of delay.now) priority) (vertex_name (graph_of model.now) edge.now.target) (expression_texts (graph_of model.now) (map expression_of edge.now.values))) }
+    ensures { OnOk result
+        (out.new.items
+        ≡ out.old.items
+        ++ deed_phrase (graph_of model.now) (Schedule (edge_delay_of delay.now) priority)
+        (vertex_name (graph_of model.now) edge.now.target)
+        (expression_texts (graph_of model.now) (map expression_of edge.now.values))) }
 {
     let name = model.vertex_name(edge.target);
     put_texts(out, &[b"event ", name, b" is scheduled after "])?;
@@ -82,7 +95,12 @@ fn put_scheduling(
 
 /// Adds what an edge does to the event to which it leads.
 fn put_deed(alloc: Global, out: &mut Vec<u8>, model: &Model, edge: &Edge) -> Result<(), NoMemory>
-    ensures { OnOk result (out.new.items ≡ out.old.items ++ deed_phrase (graph_of model.now) (edge_kind_of edge.now.form) (vertex_name (graph_of model.now) edge.now.target) (expression_texts (graph_of model.now) (map expression_of edge.now.values))) }
+    ensures { OnOk result
+        (out.new.items
+        ≡ out.old.items
+        ++ deed_phrase (graph_of model.now) (edge_kind_of edge.now.form)
+        (vertex_name (graph_of model.now) edge.now.target)
+        (expression_texts (graph_of model.now) (map expression_of edge.now.values))) }
 {
     let name = model.vertex_name(edge.target);
     match &edge.form {
@@ -111,7 +129,9 @@ fn put_edge(
     name: &[u8],
     edge: &Edge,
 ) -> Result<(), NoMemory>
-    ensures { OnOk result (out.new.items ≡ out.old.items ++ edge_sentence (graph_of model.now) name.now (edge_of edge.now)) }
+    ensures { OnOk result
+        (out.new.items
+        ≡ out.old.items ++ edge_sentence (graph_of model.now) name.now (edge_of edge.now)) }
 {
     put_texts(out, &[b"After ", name, b", "])?;
     put_condition(alloc, out, model, &edge.condition)?;
@@ -127,7 +147,10 @@ pub(crate) fn put_edges(
     name: &[u8],
     edges: &[Edge],
 ) -> Result<(), NoMemory>
-    ensures { OnOk result (out.new.items ≡ out.old.items ++ flat_map (edge_sentence (graph_of model.now) name.now) (map edge_of edges.now)) }
+    ensures { OnOk result
+        (out.new.items
+        ≡ out.old.items
+        ++ flat_map (edge_sentence (graph_of model.now) name.now) (map edge_of edges.now)) }
 {
     for edge in edges {
         put_edge(alloc, out, model, name, edge)?;

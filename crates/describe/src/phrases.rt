@@ -17,7 +17,9 @@ pub(crate) fn put_expression(
     model: &Model,
     expr: &Expr,
 ) -> Result<(), NoMemory>
-    ensures { OnOk result (out.new.items ≡ out.old.items ++ expression_text (graph_of model.now) (expression_of expr.now)) }
+    ensures { OnOk result
+        (out.new.items
+        ≡ out.old.items ++ expression_text (graph_of model.now) (expression_of expr.now)) }
 {
     put_expr(alloc, out, expr, model)
 }
@@ -29,7 +31,10 @@ fn put_later_expressions(
     model: &Model,
     exprs: &[Expr],
 ) -> Result<(), NoMemory>
-    ensures { OnOk result (out.new.items ≡ out.old.items ++ after_commas (expression_texts (graph_of model.now) (map expression_of exprs.now))) }
+    ensures { OnOk result
+        (out.new.items
+        ≡ out.old.items
+        ++ after_commas (expression_texts (graph_of model.now) (map expression_of exprs.now))) }
 {
     for expr in exprs {
         put_bytes(out, b", ")?;
@@ -45,7 +50,10 @@ pub(crate) fn put_expressions(
     model: &Model,
     exprs: &[Expr],
 ) -> Result<(), NoMemory>
-    ensures { OnOk result (out.new.items ≡ out.old.items ++ joined (expression_texts (graph_of model.now) (map expression_of exprs.now))) }
+    ensures { OnOk result
+        (out.new.items
+        ≡ out.old.items
+        ++ joined (expression_texts (graph_of model.now) (map expression_of exprs.now))) }
 {
     let [first, rest @ ..] = exprs else {
         return Ok(());
@@ -61,7 +69,9 @@ fn put_index(
     model: &Model,
     index: &Option<Expr>,
 ) -> Result<(), NoMemory>
-    ensures { OnOk result (out.new.items ≡ out.old.items ++ index_text (graph_of model.now) (option_map expression_of index.now)) }
+    ensures { OnOk result
+        (out.new.items
+        ≡ out.old.items ++ index_text (graph_of model.now) (option_map expression_of index.now)) }
 {
     let Some(index) = index else {
         return Ok(());
@@ -78,7 +88,9 @@ pub(crate) fn put_target(
     model: &Model,
     target: &Target,
 ) -> Result<(), NoMemory>
-    ensures { OnOk result (out.new.items ≡ out.old.items ++ location_text (graph_of model.now) (location_of target.now)) }
+    ensures { OnOk result
+        (out.new.items
+        ≡ out.old.items ++ location_text (graph_of model.now) (location_of target.now)) }
 {
     put_bytes(out, model.variable_name(target.var))?;
     put_index(alloc, out, model, &target.index)
@@ -86,7 +98,8 @@ pub(crate) fn put_target(
 
 /// Adds what a draw takes its value from.
 fn put_choice(out: &mut Vec<u8>, model: &Model, choice: Choice) -> Result<(), NoMemory>
-    ensures { OnOk result (out.new.items ≡ out.old.items ++ choice_phrase (graph_of model.now) (choice_of choice)) }
+    ensures { OnOk result
+        (out.new.items ≡ out.old.items ++ choice_phrase (graph_of model.now) (choice_of choice)) }
 {
     match choice {
         Choice::Uniform { lo, hi } => {
@@ -108,7 +121,9 @@ pub(crate) fn put_drawn(
     stream: u8,
     choice: Choice,
 ) -> Result<(), NoMemory>
-    ensures { OnOk result (out.new.items ≡ out.old.items ++ drawn_phrase (graph_of model.now) stream (choice_of choice)) }
+    ensures { OnOk result
+        (out.new.items
+        ≡ out.old.items ++ drawn_phrase (graph_of model.now) stream (choice_of choice)) }
 {
     put_counted(out, b"drawn from stream ", u64::from(stream))?;
     put_choice(out, model, choice)

@@ -14,7 +14,9 @@ use std::alloc::Global;
 
 /// Adds the names of variables, each after a comma and a space.
 fn put_later_parameters(out: &mut Vec<u8>, model: &Model, params: &[usize]) -> Result<(), NoMemory>
-    ensures { OnOk result (out.new.items ≡ out.old.items ++ after_commas (map (variable_name (graph_of model.now)) params.now)) }
+    ensures { OnOk result
+        (out.new.items
+        ≡ out.old.items ++ after_commas (map (variable_name (graph_of model.now)) params.now)) }
 {
     for param in params {
         put_texts(out, &[b", ", model.variable_name(*param)])?;
@@ -24,7 +26,10 @@ fn put_later_parameters(out: &mut Vec<u8>, model: &Model, params: &[usize]) -> R
 
 /// Adds the names of the variables that take the values of an event, or that it takes none.
 fn put_parameters(out: &mut Vec<u8>, model: &Model, params: &[usize]) -> Result<(), NoMemory>
-    ensures { OnOk result (out.new.items ≡ out.old.items ++ parameters_phrase (map (variable_name (graph_of model.now)) params.now)) }
+    ensures { OnOk result
+        (out.new.items
+        ≡ out.old.items
+        ++ parameters_phrase (map (variable_name (graph_of model.now)) params.now)) }
 {
     let [first, rest @ ..] = params else {
         return put_bytes(out, b"no values");
@@ -40,7 +45,9 @@ fn put_vertex(
     model: &Model,
     vertex: &Vertex,
 ) -> Result<(), NoMemory>
-    ensures { OnOk result (out.new.items ≡ out.old.items ++ vertex_sentences (graph_of model.now) (vertex_of vertex.now)) }
+    ensures { OnOk result
+        (out.new.items
+        ≡ out.old.items ++ vertex_sentences (graph_of model.now) (vertex_of vertex.now)) }
 {
     let name = vertex.name.as_slice();
     put_texts(out, &[b"Event ", name, b" takes "])?;
@@ -57,7 +64,10 @@ pub(crate) fn put_vertices(
     model: &Model,
     vertices: &[Vertex],
 ) -> Result<(), NoMemory>
-    ensures { OnOk result (out.new.items ≡ out.old.items ++ flat_map (vertex_sentences (graph_of model.now)) (map vertex_of vertices.now)) }
+    ensures { OnOk result
+        (out.new.items
+        ≡ out.old.items
+        ++ flat_map (vertex_sentences (graph_of model.now)) (map vertex_of vertices.now)) }
 {
     for vertex in vertices {
         put_vertex(alloc, out, model, vertex)?;

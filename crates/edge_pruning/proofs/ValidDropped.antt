@@ -8,7 +8,7 @@ use Rattle.std.proofs.lemmas.Simd.{map-map}
 use Rattle.model_core.specs.EventGraph.{EventGraph, EventVertex, EventEdge, Watched, WatchedVariable, WatchedVertex}
 use Rattle.model_core.specs.Run.Step.{no_vertex, vertex_at}
 use Rattle.model_core.specs.Text.Canonical.{vertex_name, vertex_lines, variable_name, change_line, edge_line, edge_word, expression_texts, timing_text, condition_text, in_parentheses, variable_line, table_line, watched_name, watch_names_line, watch_line, canonical}
-use Rattle.model_core.specs.Text.Spellable.{HasOne, Extent, extent, SpellableEdge, SpellableVertex, SpellableWatched, IsSpellable}
+use Rattle.model_core.specs.Text.Spellable.{IsNonEmpty, Extent, extent, SpellableEdge, SpellableVertex, SpellableWatched, IsSpellable}
 use Rattle.model_core.specs.Static.OwnRules.{parameters_of, KeepsStaticRules}
 use Rattle.model_core.specs.Rules.MarkedPlaces.{rank, marked_of}
 use Rattle.model_core.specs.Rules.Drop.{edge_renumbered, vertex_renumbered, watched_renumbered, only_marked}
@@ -41,7 +41,7 @@ pub flat_map-alike : {A C : Type 0} (f h : A → List C) (xs : List A) → ((x :
 flat_map-alike f h [] same = refl
 flat_map-alike f h (x ∷ xs) same = ap₂ (λ y ys. y ++ ys) (same x (inl refl)) (flat_map-alike f h xs (λ y there. same y (inr there)))
 
-some-marked : {A : Type 0} (marks : List Bool) (xs : List A) → Marked marks 0 → 0 < length xs → HasOne (marked_of marks xs)
+some-marked : {A : Type 0} (marks : List Bool) (xs : List A) → Marked marks 0 → 0 < length xs → IsNonEmpty (marked_of marks xs)
 some-marked [] xs marked some = cc
 some-marked (b ∷ bs) [] marked some = absurd (omega arith)
 some-marked (true ∷ bs) (x ∷ xs) marked some = tt

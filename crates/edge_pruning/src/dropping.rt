@@ -2,7 +2,7 @@
 
 ghost use Rattle.std.specs.Prelude.{◌≡◌, ◌<◌, true, false, None, OnOk, OnErr, IfOk, IfErr};
 ghost use Rattle.model_core.specs.Rules.Conditions.{first_failed};
-ghost use Rattle.model_core.specs.Rules.ConditionTold.{NamesCondition};
+ghost use Rattle.model_core.specs.Rules.RefusedCondition.{NamesCondition};
 ghost use Rattle.model_core.specs.Rules.Reached.{unreached};
 ghost use Rattle.model_core.specs.Rules.PlacedEdges.{with_place};
 ghost use Rattle.model_core.specs.Rules.Drop.{drop_conditions, staying_marks, only_marked, dropped};
@@ -30,9 +30,11 @@ pub fn drop_vertices(
     model: &mut Model,
     vertices: &List<usize>,
 ) -> Result<(), RuleError>
-    ensures done { OnOk result ((first_failed (drop_conditions (graph_of model.old) vertices.now) ≡ None)
+    ensures done { OnOk result
+        ((first_failed (drop_conditions (graph_of model.old) vertices.now) ≡ None)
         × (graph_of model.new ≡ dropped (graph_of model.old) vertices.now)) }
-    ensures refused { IfErr result (λ e. NamesCondition e (first_failed (drop_conditions (graph_of model.old) vertices.now))) }
+    ensures refused { IfErr result
+        (λ e. NamesCondition e (first_failed (drop_conditions (graph_of model.old) vertices.now))) }
     ensures unchanged { OnErr result (graph_of model.new ≡ graph_of model.old) }
 {
     if vertices.len() == 0 {

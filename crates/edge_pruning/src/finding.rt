@@ -39,7 +39,8 @@ pub fn can_apply(model: &Model, rule: EdgeRule, edge: &Edge) -> bool
 
 /// The place of the vertex's first edge to which the rule applies.
 fn first_of_vertex(model: &Model, rule: EdgeRule, vertex: &Vertex) -> Option<usize>
-    ensures { result ≡ position_from (edge_test rule (graph_of model.now)) 0 (vertex_of vertex.now).edges }
+    ensures { result
+        ≡ position_from (edge_test rule (graph_of model.now)) 0 (vertex_of vertex.now).edges }
 {
     for (place, edge) in vertex.edges.as_slice().iter().enumerate() {
         if can_apply(model, rule, edge) {
@@ -51,7 +52,8 @@ fn first_of_vertex(model: &Model, rule: EdgeRule, vertex: &Vertex) -> Option<usi
 
 /// The places of the vertex and of its edge, of the first edge to which the rule applies.
 fn first_of_model(model: &Model, rule: EdgeRule) -> Option<(usize, usize)>
-    ensures { result ≡ first_edge (edge_test rule (graph_of model.now)) 0 (map vertex_of model.now.vertices) }
+    ensures { result
+        ≡ first_edge (edge_test rule (graph_of model.now)) 0 (map vertex_of model.now.vertices) }
 {
     for (place, vertex) in model.vertices.as_slice().iter().enumerate() {
         if let Some(edge) = first_of_vertex(model, rule, vertex) {

@@ -66,10 +66,13 @@ pub fn dropping_keeps_the_meaning()
 /// A drop takes the lines of its vertices from the canonical text after the line of its version, and nothing else. Where none of
 /// them has parts that only a text of version 2 can write, the result needs one where the model does.
 pub fn dropping_takes_lines()
-    ensures lines { (g : EventGraph) (vertices : List ℕ) → first_failed (drop_conditions g vertices) ≡ None
-        → length (canonical (dropped g vertices)) + length (version_line (needs_version_two g)) + length (flat_map (λ k. vertex_lines g (vertex_at g k)) vertices)
+    ensures lines { (g : EventGraph) (vertices : List ℕ)
+        → first_failed (drop_conditions g vertices) ≡ None
+        → length (canonical (dropped g vertices)) + length (version_line (needs_version_two g))
+        + length (flat_map (λ k. vertex_lines g (vertex_at g k)) vertices)
         ≡ length (canonical g) + length (version_line (needs_version_two (dropped g vertices))) }
-    ensures version { (g : EventGraph) (vertices : List ℕ) → first_failed (drop_conditions g vertices) ≡ None
+    ensures version { (g : EventGraph) (vertices : List ℕ)
+        → first_failed (drop_conditions g vertices) ≡ None
         → list_any (λ k. has_later_parts (vertex_at g k)) vertices ≡ false
         → needs_version_two (dropped g vertices) ≡ needs_version_two g }
 {}
@@ -79,7 +82,8 @@ pub fn dropping_one_leaves_lines()
     ensures { (g : EventGraph) (gone k : ℕ) → first_failed (drop_conditions g (gone ∷ [])) ≡ None
         → let h = dropped g (gone ∷ []) in
         let was = slice_index_or (remove g.vertices gone) k no_vertex in
-        flat_map (change_line h) (vertex_at h k).changes ++ flat_map (edge_line h) (vertex_at h k).edges
+        flat_map (change_line h) (vertex_at h k).changes
+        ++ flat_map (edge_line h) (vertex_at h k).edges
         ≡ flat_map (change_line g) was.changes ++ flat_map (edge_line g) was.edges }
 {}
 
@@ -103,33 +107,45 @@ pub fn marks_are_of_reachable_vertices()
 /// Where no edge can be pruned none can be after a prune, and where none can be settled none can be after it: it leaves the
 /// other edges and all ranges.
 pub fn pruning_brings_no_rule_of_edges()
-    ensures prune { (g : EventGraph) (vertex edge : ℕ) → first_prune g ≡ None → first_prune (pruned g vertex edge) ≡ None }
-    ensures settle { (g : EventGraph) (vertex edge : ℕ) → first_settle g ≡ None → first_settle (pruned g vertex edge) ≡ None }
+    ensures prune { (g : EventGraph) (vertex edge : ℕ) → first_prune g ≡ None
+        → first_prune (pruned g vertex edge) ≡ None }
+    ensures settle { (g : EventGraph) (vertex edge : ℕ) → first_settle g ≡ None
+        → first_settle (pruned g vertex edge) ≡ None }
 {}
 
 /// Where no edge can be pruned none can be after a settle, and where none can be settled none can be after it: the literal
 /// `true` is neither refuted nor settled again.
 pub fn settling_brings_no_rule_of_edges()
-    ensures prune { (g : EventGraph) (vertex edge : ℕ) → first_prune g ≡ None → first_prune (settled g vertex edge) ≡ None }
-    ensures settle { (g : EventGraph) (vertex edge : ℕ) → first_settle g ≡ None → first_settle (settled g vertex edge) ≡ None }
+    ensures prune { (g : EventGraph) (vertex edge : ℕ) → first_prune g ≡ None
+        → first_prune (settled g vertex edge) ≡ None }
+    ensures settle { (g : EventGraph) (vertex edge : ℕ) → first_settle g ≡ None
+        → first_settle (settled g vertex edge) ≡ None }
 {}
 
 /// Where no edge can be pruned none can be after a drop, and where none can be settled none can be after it: it leaves the
 /// conditions of edges that stay, and all ranges.
 pub fn dropping_brings_no_rule_of_edges()
-    ensures prune { (g : EventGraph) (vertices : List ℕ) → first_prune g ≡ None → first_prune (dropped g vertices) ≡ None }
-    ensures settle { (g : EventGraph) (vertices : List ℕ) → first_settle g ≡ None → first_settle (dropped g vertices) ≡ None }
+    ensures prune { (g : EventGraph) (vertices : List ℕ) → first_prune g ≡ None
+        → first_prune (dropped g vertices) ≡ None }
+    ensures settle { (g : EventGraph) (vertices : List ℕ) → first_settle g ≡ None
+        → first_settle (dropped g vertices) ≡ None }
 {}
 
 /// Where all vertices can be reached, all can be after a merge if the second one is the first vertex or an edge leads to it;
 /// else the second one is the only one that can't.
 pub fn merging_leaves_vertices_reached()
-    ensures first { (g : EventGraph) (first second : ℕ) → unreached g ≡ [] → first_failed (merge_conditions g first second) ≡ None
+    ensures first { (g : EventGraph) (first second : ℕ) → unreached g ≡ []
+        → first_failed (merge_conditions g first second) ≡ None
         → second ≡ 0 → unreached (merged g first second) ≡ [] }
-    ensures led { (g : EventGraph) (first second : ℕ) → unreached g ≡ [] → first_failed (merge_conditions g first second) ≡ None
-        → list_any (λ (v : EventVertex). list_any (leads_to second) v.edges) (merged g first second).vertices ≡ true
+    ensures led { (g : EventGraph) (first second : ℕ) → unreached g ≡ []
+        → first_failed (merge_conditions g first second) ≡ None
+        → list_any (λ (v : EventVertex). list_any (leads_to second) v.edges)
+        (merged g first second).vertices ≡ true
         → unreached (merged g first second) ≡ [] }
-    ensures unled { (g : EventGraph) (first second : ℕ) → unreached g ≡ [] → first_failed (merge_conditions g first second) ≡ None
-        → (second ≡ 0 → ⊥) → list_any (λ (v : EventVertex). list_any (leads_to second) v.edges) (merged g first second).vertices ≡ false
+    ensures unled { (g : EventGraph) (first second : ℕ) → unreached g ≡ []
+        → first_failed (merge_conditions g first second) ≡ None
+        → (second ≡ 0 → ⊥)
+        → list_any (λ (v : EventVertex). list_any (leads_to second) v.edges)
+        (merged g first second).vertices ≡ false
         → unreached (merged g first second) ≡ second ∷ [] }
 {}

@@ -90,9 +90,11 @@ fn change_at(model: &mut Model, rule: EdgeRule, vertex: usize, edge: usize)
 /// Takes an edge away whose condition never holds; later edges of its vertex move up. The vertex and the edge are given
 /// by their places from 0.
 pub fn prune(model: &mut Model, vertex: usize, edge: usize) -> Result<(), RuleRefused>
-    ensures done { OnOk result ((first_failed (prune_conditions (graph_of model.old) vertex edge) ≡ None)
+    ensures done { OnOk result
+        ((first_failed (prune_conditions (graph_of model.old) vertex edge) ≡ None)
         × (graph_of model.new ≡ pruned (graph_of model.old) vertex edge)) }
-    ensures refused { IfErr result (λ e. first_failed (prune_conditions (graph_of model.old) vertex edge) ≡ Some e.condition) }
+    ensures refused { IfErr result
+        (λ e. first_failed (prune_conditions (graph_of model.old) vertex edge) ≡ Some e.condition) }
     ensures unchanged { OnErr result (graph_of model.new ≡ graph_of model.old) }
 {
     if let Some(condition) = failed_prune(model, vertex, edge) {
@@ -105,9 +107,12 @@ pub fn prune(model: &mut Model, vertex: usize, edge: usize) -> Result<(), RuleRe
 /// Makes the literal `true` of an edge's condition that always holds. The vertex and the edge are given by their places
 /// from 0.
 pub fn settle(model: &mut Model, vertex: usize, edge: usize) -> Result<(), RuleRefused>
-    ensures done { OnOk result ((first_failed (settle_conditions (graph_of model.old) vertex edge) ≡ None)
+    ensures done { OnOk result
+        ((first_failed (settle_conditions (graph_of model.old) vertex edge) ≡ None)
         × (graph_of model.new ≡ settled (graph_of model.old) vertex edge)) }
-    ensures refused { IfErr result (λ e. first_failed (settle_conditions (graph_of model.old) vertex edge) ≡ Some e.condition) }
+    ensures refused { IfErr result
+        (λ e. first_failed (settle_conditions (graph_of model.old) vertex edge)
+        ≡ Some e.condition) }
     ensures unchanged { OnErr result (graph_of model.new ≡ graph_of model.old) }
 {
     if let Some(condition) = failed_settle(model, vertex, edge) {

@@ -13,7 +13,8 @@ use std::alloc::Global;
 
 /// The edges of the vertex at this place.
 fn edges_at(vertices: &[Vertex], place: usize) -> &[Edge]
-    ensures { map edge_of result.now ≡ (slice_index_or (map vertex_of vertices.now) place no_vertex).edges }
+    ensures { map edge_of result.now
+        ≡ (slice_index_or (map vertex_of vertices.now) place no_vertex).edges }
 {
     match vertices.get(place) {
         Some(vertex) => vertex.edges.as_slice(),

@@ -28,7 +28,8 @@ pub struct Split {
 fn carries(nodes: &[Node], place: usize, values: &Carried) -> bool
     requires there { place < length nodes.now }
     requires event { IsSome (item_at nodes.now place) }
-    ensures { (x : Event) → item_at nodes.now place ≡ Some x → result ≡ same_values x.entry.values values.now.items }
+    ensures { (x : Event) → item_at nodes.now place ≡ Some x
+        → result ≡ same_values x.entry.values values.now.items }
 {
     let item = nodes[place].item.held();
     same(&item.entry.values, values)
@@ -37,7 +38,8 @@ fn carries(nodes: &[Node], place: usize, values: &Carried) -> bool
 /// Puts a node ahead of those that are kept aside.
 fn set_aside(nodes: &mut [Node], place: usize, kept: Option<usize>)
     requires { place < length nodes.old }
-    ensures { nodes.new ≡ slice_set nodes.old place (record (node_at nodes.old place) { left = kept }) }
+    ensures { nodes.new
+        ≡ slice_set nodes.old place (record (node_at nodes.old place) { left = kept }) }
 {
     nodes[place].left = kept;
 }
@@ -45,7 +47,9 @@ fn set_aside(nodes: &mut [Node], place: usize, kept: Option<usize>)
 /// Makes a node a heap of its own.
 fn make_lone(nodes: &mut [Node], place: usize)
     requires { place < length nodes.old }
-    ensures { nodes.new ≡ slice_set nodes.old place (record (node_at nodes.old place) { left = None; right = None; rank = 1; left_rank = 0 }) }
+    ensures { nodes.new
+        ≡ slice_set nodes.old place
+        (record (node_at nodes.old place) { left = None; right = None; rank = 1; left_rank = 0 }) }
 {
     let node = &mut nodes[place];
     node.left = None;
@@ -95,9 +99,11 @@ pub fn merge_back<L: Ledger>(
     kept: Option<usize>,
     steps: &mut Steps<L>,
 ) -> Option<usize>
-    requires split { (whole : ℕ → ℕ) × (s : Tree) × (aside : List ℕ) × CanMergeBack nodes.old whole s aside heap kept }
+    requires split { (whole : ℕ → ℕ) × (s : Tree) × (aside : List ℕ)
+        × CanMergeBack nodes.old whole s aside heap kept }
     requires small { length nodes.old < 2 ^ 64 }
-    ensures { (whole : ℕ → ℕ) (s : Tree) (aside : List ℕ) → CanMergeBack nodes.old whole s aside heap kept
+    ensures { (whole : ℕ → ℕ) (s : Tree) (aside : List ℕ)
+        → CanMergeBack nodes.old whole s aside heap kept
         → (t : Tree) × IsWhole nodes.old nodes.new whole t result }
 {
     let mut root = heap;

@@ -24,7 +24,8 @@ fn refill(node: &mut Node, number: u64, entry: &Entry)
 #[inline(never)]
 fn add_node(nodes: &mut Vec<Node>, number: u64, entry: &Entry)
     requires { vec_len nodes.old < vec_capacity nodes.old }
-    ensures nodes { nodes.new.items ≡ nodes.old.items ++ lone_node (record { number = number; entry = entry.now }) ∷ [] }
+    ensures nodes { nodes.new.items
+        ≡ nodes.old.items ++ lone_node (record { number = number; entry = entry.now }) ∷ [] }
     ensures capacity { vec_capacity nodes.old ≤ vec_capacity nodes.new }
 {
     let pushed = nodes.push(Node {
@@ -41,7 +42,8 @@ fn add_node(nodes: &mut Vec<Node>, number: u64, entry: &Entry)
 pub fn claim(nodes: &mut Vec<Node>, free: &mut Option<usize>, number: u64, entry: &Entry) -> usize
     requires there { IfSome free.old (λ i. i < vec_len nodes.old) }
     requires room { free.old ≡ None → vec_len nodes.old < vec_capacity nodes.old }
-    ensures claimed { IsClaimed nodes.old.items nodes.new.items (record { number = number; entry = entry.now }) free.old free.new result }
+    ensures claimed { IsClaimed nodes.old.items nodes.new.items
+        (record { number = number; entry = entry.now }) free.old free.new result }
     ensures capacity { vec_capacity nodes.old ≤ vec_capacity nodes.new }
 {
     match *free {
@@ -63,7 +65,8 @@ pub fn claim(nodes: &mut Vec<Node>, free: &mut Option<usize>, number: u64, entry
 pub fn release(nodes: &mut [Node], free: &mut Option<usize>, place: usize)
     requires { place < length nodes.old }
     ensures free { free.new ≡ Some place }
-    ensures nodes { nodes.new ≡ slice_set nodes.old place (freed (node_at nodes.old place) free.old) }
+    ensures nodes { nodes.new
+        ≡ slice_set nodes.old place (freed (node_at nodes.old place) free.old) }
 {
     let node = &mut nodes[place];
     node.left = *free;

@@ -1,7 +1,7 @@
 //! The first event of a vertex that carries given values.
 
 ghost use Rattle.std.specs.Prelude.{◌<◌, ◌^◌, length};
-ghost use Rattle.model_core.specs.Run.Pending.{is_with};
+ghost use Rattle.model_core.specs.Run.Pending.{is_event_with};
 ghost use Rattle.event_heap.specs.Inner.Listed.{events_of};
 ghost use Rattle.event_heap.specs.Inner.Next.{LosesNext};
 ghost use Rattle.event_heap.specs.Inner.Forest.{IsSound, OthersStay};
@@ -25,7 +25,8 @@ pub fn take_equal<L: Ledger>(
     requires sound { IsSound nodes.old roots.old free.old }
     requires small { length nodes.old < 2 ^ 64 }
     ensures sound { IsSound nodes.new roots.new free.new }
-    ensures next { LosesNext (is_with vertex values.now.items) (events_of nodes.old) (events_of nodes.new) result }
+    ensures next { LosesNext (is_event_with vertex values.now.items) (events_of nodes.old)
+        (events_of nodes.new) result }
     ensures others { OthersStay nodes.old roots.old nodes.new roots.new vertex }
 {
     let Some(root) = root_of(roots, vertex) else {

@@ -22,7 +22,8 @@ fn hang(nodes: &mut [Node], top: usize, below: usize)
 fn seat(nodes: &mut [Node], top: usize, rank_below: u32) -> u32
     requires there { top < length nodes.old }
     requires fits { rank_below + 1 < 2 ^ 32 }
-    ensures nodes { nodes.new ≡ slice_set nodes.old top (seated (node_at nodes.old top) rank_below) }
+    ensures nodes { nodes.new
+        ≡ slice_set nodes.old top (seated (node_at nodes.old top) rank_below) }
     ensures rank { result ≡ (seated (node_at nodes.old top) rank_below).rank }
 {
     let node = &mut nodes[top];

@@ -49,9 +49,11 @@ fn replay<L: Ledger>(
     vertex: usize,
     steps: &mut Steps<L>,
 )
-    requires games { (u : ℕ) → u ≢ vertex → slice_index_or tournament.old u None ≡ option_map key_of (top_of heaps.now u) }
+    requires games { (u : ℕ) → u ≢ vertex
+        → slice_index_or tournament.old u None ≡ option_map key_of (top_of heaps.now u) }
     requires vertices { length tournament.old ≡ length heaps.now.tops }
-    ensures games { (u : ℕ) → slice_index_or tournament.new u None ≡ option_map key_of (top_of heaps.now u) }
+    ensures games { (u : ℕ)
+        → slice_index_or tournament.new u None ≡ option_map key_of (top_of heaps.now u) }
     ensures vertices { length tournament.new ≡ length heaps.now.tops }
     ensures ticks { (d : ℕ) → length heaps.now.tops ≤ 2 ^ d → steps.new ≤ steps.old + d }
 {
@@ -63,10 +65,12 @@ fn replay<L: Ledger>(
 
 /// Does this for a vertex that alone has an event, or had the last one.
 fn replay_alone(heaps: &Heaps, tournament: &mut Tournament, vertex: usize)
-    requires games { (u : ℕ) → u ≢ vertex → slice_index_or tournament.old u None ≡ option_map key_of (top_of heaps.now u) }
+    requires games { (u : ℕ) → u ≢ vertex
+        → slice_index_or tournament.old u None ≡ option_map key_of (top_of heaps.now u) }
     requires alone { (u : ℕ) → u ≢ vertex → slice_index_or tournament.old u None ≡ None }
     requires vertices { length tournament.old ≡ length heaps.now.tops }
-    ensures games { (u : ℕ) → slice_index_or tournament.new u None ≡ option_map key_of (top_of heaps.now u) }
+    ensures games { (u : ℕ)
+        → slice_index_or tournament.new u None ≡ option_map key_of (top_of heaps.now u) }
     ensures vertices { length tournament.new ≡ length heaps.now.tops }
 {
     if vertex < tournament.vertices() {
@@ -86,10 +90,13 @@ fn replay_known<L: Ledger>(
     is_alone: bool,
     steps: &mut Steps<L>,
 )
-    requires games { (u : ℕ) → u ≢ vertex → slice_index_or tournament.old u None ≡ option_map key_of (top_of heaps.now u) }
-    requires alone { is_alone ≡ true → (u : ℕ) → u ≢ vertex → slice_index_or tournament.old u None ≡ None }
+    requires games { (u : ℕ) → u ≢ vertex
+        → slice_index_or tournament.old u None ≡ option_map key_of (top_of heaps.now u) }
+    requires alone { is_alone ≡ true → (u : ℕ) → u ≢ vertex
+        → slice_index_or tournament.old u None ≡ None }
     requires vertices { length tournament.old ≡ length heaps.now.tops }
-    ensures games { (u : ℕ) → slice_index_or tournament.new u None ≡ option_map key_of (top_of heaps.now u) }
+    ensures games { (u : ℕ)
+        → slice_index_or tournament.new u None ≡ option_map key_of (top_of heaps.now u) }
     ensures vertices { length tournament.new ≡ length heaps.now.tops }
     ensures ticks { (d : ℕ) → length heaps.now.tops ≤ 2 ^ d → steps.new ≤ steps.old + d }
 {
@@ -110,7 +117,9 @@ fn play_first<L: Ledger>(
     steps: &mut Steps<L>,
 )
     requires known { entry.now.vertex < length tournament.old }
-    ensures keys { tournament.new ≡ slice_set tournament.old entry.now.vertex (Some (key_of (record { number = number; entry = entry.now }))) }
+    ensures keys { tournament.new
+        ≡ slice_set tournament.old entry.now.vertex
+        (Some (key_of (record { number = number; entry = entry.now }))) }
     ensures ticks { (d : ℕ) → length tournament.old ≤ 2 ^ d → steps.new ≤ steps.old + d }
 {
     let key = Key::new(entry.time, entry.priority, number);
@@ -129,12 +138,18 @@ fn replay_added<L: Ledger>(
     steps: &mut Steps<L>,
 )
     requires known { entry.now.vertex < length tournament.old }
-    requires games { (u : ℕ) → u ≢ entry.now.vertex → slice_index_or tournament.old u None ≡ option_map key_of (top_of heaps.now u) }
-    requires leads { leads ≡ true → top_of heaps.now entry.now.vertex ≡ Some (record { number = number; entry = entry.now }) }
-    requires follows { leads ≡ false → slice_index_or tournament.old entry.now.vertex None ≡ option_map key_of (top_of heaps.now entry.now.vertex) }
-    requires alone { is_alone ≡ true → (u : ℕ) → u ≢ entry.now.vertex → slice_index_or tournament.old u None ≡ None }
+    requires games { (u : ℕ) → u ≢ entry.now.vertex
+        → slice_index_or tournament.old u None ≡ option_map key_of (top_of heaps.now u) }
+    requires leads { leads ≡ true
+        → top_of heaps.now entry.now.vertex ≡ Some (record { number = number; entry = entry.now }) }
+    requires follows { leads ≡ false
+        → slice_index_or tournament.old entry.now.vertex None
+        ≡ option_map key_of (top_of heaps.now entry.now.vertex) }
+    requires alone { is_alone ≡ true → (u : ℕ) → u ≢ entry.now.vertex
+        → slice_index_or tournament.old u None ≡ None }
     requires vertices { length tournament.old ≡ length heaps.now.tops }
-    ensures games { (u : ℕ) → slice_index_or tournament.new u None ≡ option_map key_of (top_of heaps.now u) }
+    ensures games { (u : ℕ)
+        → slice_index_or tournament.new u None ≡ option_map key_of (top_of heaps.now u) }
     ensures vertices { length tournament.new ≡ length heaps.now.tops }
     ensures ticks { (d : ℕ) → length heaps.now.tops ≤ 2 ^ d → steps.new ≤ steps.old + d }
 {
@@ -150,7 +165,8 @@ fn replay_added<L: Ledger>(
 
 /// The vertex of the next event, or `None` where there is no event.
 fn next_vertex(heaps: &Heaps, tournament: &Tournament) -> Option<usize>
-    requires { (u : ℕ) → slice_index_or tournament.now u None ≡ option_map key_of (top_of heaps.now u) }
+    requires { (u : ℕ)
+        → slice_index_or tournament.now u None ≡ option_map key_of (top_of heaps.now u) }
     ensures { IsNextVertex heaps.now result }
 {
     heaps.show_firsts();
@@ -211,10 +227,12 @@ impl Pending for HeapPending {
         requires known { entry.now.vertex < self.old.vertices }
         ensures entries { self.new.entries ≡ self.old.entries ++ entry.now ∷ [] }
         ensures spare { self.old.spare ≤ self.new.spare + 1 }
-        ensures room { self.old.spare + length self.old.entries ≤ self.new.spare + length self.new.entries }
+        ensures room { self.old.spare + length self.old.entries
+            ≤ self.new.spare + length self.new.entries }
         ensures numbered { self.new.numbered ≡ self.old.numbered + 1 }
         ensures vertices { self.new.vertices ≡ self.old.vertices }
-        ensures ticks { steps.new ≤ steps.old + (3 * (digits (length self.old.entries) + 1) + digits self.old.vertices) }
+        ensures ticks { steps.new
+            ≤ steps.old + (3 * (digits (length self.old.entries) + 1) + digits self.old.vertices) }
     {
         self.heaps.show_firsts();
         let is_first = self.heaps.count() == 0;
@@ -247,10 +265,12 @@ impl Pending for HeapPending {
         ensures gives { result ≡ option_map (λ n. n.entry) (next_entry self.old.entries) }
         ensures entries { self.new.entries ≡ without_next (λ e. true) self.old.entries }
         ensures spare { self.old.spare ≤ self.new.spare }
-        ensures room { self.old.spare + length self.old.entries ≤ self.new.spare + length self.new.entries }
+        ensures room { self.old.spare + length self.old.entries
+            ≤ self.new.spare + length self.new.entries }
         ensures numbered { self.new.numbered ≡ self.old.numbered }
         ensures vertices { self.new.vertices ≡ self.old.vertices }
-        ensures ticks { steps.new ≤ steps.old + (3 * (digits (length self.old.entries) + 1) + digits self.old.vertices) }
+        ensures ticks { steps.new
+            ≤ steps.old + (3 * (digits (length self.old.entries) + 1) + digits self.old.vertices) }
     {
         if self.count() == 0 {
             return None;
@@ -267,10 +287,12 @@ impl Pending for HeapPending {
         ensures gives { Some entry.new ≡ option_map (λ n. n.entry) (next_entry self.old.entries) }
         ensures entries { self.new.entries ≡ without_next (λ e. true) self.old.entries }
         ensures spare { self.old.spare ≤ self.new.spare }
-        ensures room { self.old.spare + length self.old.entries ≤ self.new.spare + length self.new.entries }
+        ensures room { self.old.spare + length self.old.entries
+            ≤ self.new.spare + length self.new.entries }
         ensures numbered { self.new.numbered ≡ self.old.numbered }
         ensures vertices { self.new.vertices ≡ self.old.vertices }
-        ensures ticks { steps.new ≤ steps.old + (3 * (digits (length self.old.entries) + 1) + digits self.old.vertices) }
+        ensures ticks { steps.new
+            ≤ steps.old + (3 * (digits (length self.old.entries) + 1) + digits self.old.vertices) }
     {
         let Some(vertex) = next_vertex(&self.heaps, &self.tournament) else {
             unreachable!()
@@ -289,10 +311,12 @@ impl Pending for HeapPending {
         ensures deleted { result + length self.new.entries ≡ length self.old.entries }
         ensures entries { self.new.entries ≡ without_next (is_of vertex) self.old.entries }
         ensures spare { self.old.spare ≤ self.new.spare }
-        ensures room { self.old.spare + length self.old.entries ≤ self.new.spare + length self.new.entries }
+        ensures room { self.old.spare + length self.old.entries
+            ≤ self.new.spare + length self.new.entries }
         ensures numbered { self.new.numbered ≡ self.old.numbered }
         ensures vertices { self.new.vertices ≡ self.old.vertices }
-        ensures ticks { steps.new ≤ steps.old + (3 * (digits (length self.old.entries) + 1) + digits self.old.vertices) }
+        ensures ticks { steps.new
+            ≤ steps.old + (3 * (digits (length self.old.entries) + 1) + digits self.old.vertices) }
     {
         let gone = self.heaps.take(vertex, steps);
         replay(&self.heaps, &mut self.tournament, vertex, steps);

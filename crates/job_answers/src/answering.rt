@@ -45,7 +45,8 @@ fn answer_model<K: Sink>(
 ) -> Result<DeliveryOutcome, Failure>
     requires valid { IsValid (graph_of model) }
     requires limits { KeepsLimits (OfModel job.now) }
-    ensures { DeliversSome K.seen (AnswersModel job.now (graph_of model)) (MayLackMemory job.now (graph_of model)) result output.old output.new }
+    ensures { DeliversSome K.seen (AnswersModel job.now (graph_of model))
+        (MayLackMemory job.now (graph_of model)) result output.old output.new }
 {
     let said = match job {
         ModelJob::Reduce => return deliver(output, reduce(alloc, model)),
@@ -71,7 +72,9 @@ fn answer_document<K: Sink>(
     document: &Document,
     output: &mut K,
 ) -> Result<DeliveryOutcome, Failure>
-    ensures { DeliversSome K.seen (AnswersDocument job.now (graph_of document.now.original) (map application_of document.now.applications) (graph_of document.now.reduced))
+    ensures { DeliversSome K.seen
+        (AnswersDocument job.now (graph_of document.now.original)
+        (map application_of document.now.applications) (graph_of document.now.reduced))
         ⊥ result output.old output.new }
 {
     match job {
@@ -89,8 +92,10 @@ fn answer_saved<K: Sink>(
     requires valid { IsValid (graph_of saved.now.model) }
     requires good { IsGood (graph_of saved.now.model) saved.now.snapshot }
     requires limits { KeepsLimits (OfSaved job.now) }
-    ensures { DeliversSome K.seen (AnswersSaved job.now (graph_of saved.now.model) saved.now.snapshot)
-        (SavedMayLackMemory job.now (graph_of saved.now.model) saved.now.snapshot) result output.old output.new }
+    ensures { DeliversSome K.seen
+        (AnswersSaved job.now (graph_of saved.now.model) saved.now.snapshot)
+        (SavedMayLackMemory job.now
+        (graph_of saved.now.model) saved.now.snapshot) result output.old output.new }
 {
     match job {
         SavedJob::Resume(options) => resume(alloc, &saved.model, &saved.snapshot, options, output),
@@ -135,7 +140,8 @@ pub fn answer_text<K: Sink>(
 ) -> Result<DeliveryOutcome, Failure>
     requires within { IsWithin (limit_of reading.now) text.now }
     requires limits { KeepsLimits reading.now }
-    ensures { DeliversSome K.seen (Responds reading.now text.now) (MayStopShort reading.now text.now)
+    ensures { DeliversSome K.seen (Responds reading.now text.now)
+        (MayStopShort reading.now text.now)
         result output.old output.new }
 {
     match reading {

@@ -29,16 +29,20 @@ fn texts_keep_their_laws()
 
 /// A text within its limit has one complaint or reads as a model, and never both.
 pub fn texts_have_one_complaint()
-    ensures one { (text : List ℕ) (c d : Complaint) (i j : ℕ) → IsComplaint text c i → IsComplaint text d j → (c ≡ d) × (i ≡ j) }
-    ensures none { (text : List ℕ) (c : Complaint) (i : ℕ) (g : EventGraph) → IsComplaint text c i → Reads text g → ⊥ }
-    ensures some { (text : List ℕ) → length text ≤ TEXT_MAX → HasComplaint text ⊎ ((g : EventGraph) × Reads text g) }
+    ensures one { (text : List ℕ) (c d : Complaint) (i j : ℕ) → IsComplaint text c i
+        → IsComplaint text d j → (c ≡ d) × (i ≡ j) }
+    ensures none { (text : List ℕ) (c : Complaint) (i : ℕ) (g : EventGraph) → IsComplaint text c i
+        → Reads text g → ⊥ }
+    ensures some { (text : List ℕ) → length text ≤ TEXT_MAX
+        → HasComplaint text ⊎ ((g : EventGraph) × Reads text g) }
 {
     texts_keep_their_laws();
 }
 
 /// `reduce` ends as done for every text that reads as a model.
 pub fn readable_models_are_reduced()
-    ensures { (text : List ℕ) (g : EventGraph) (a : Answer) → Reads text g → Answers (OfModel Reduce) text a → status_of_answer a ≡ Status.Done }
+    ensures { (text : List ℕ) (g : EventGraph) (a : Answer) → Reads text g
+        → Answers (OfModel Reduce) text a → status_of_answer a ≡ Status.Done }
 {
     texts_have_one_complaint();
 }

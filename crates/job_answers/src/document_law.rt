@@ -21,23 +21,31 @@ use static_laws::accepted_or_one_fault;
 
 /// A document within its limit has one complaint or reads as two models and a certificate, and never both.
 pub fn documents_have_one_complaint()
-    ensures one { (text : List ℕ) (c d : Complaint) (i j : ℕ) → IsDocumentComplaint text c i → IsDocumentComplaint text d j → (c ≡ d) × (i ≡ j) }
-    ensures none { (text : List ℕ) (c : Complaint) (i : ℕ) (g : EventGraph) (applications : List RuleApplication) (h : EventGraph)
+    ensures one { (text : List ℕ) (c d : Complaint) (i j : ℕ) → IsDocumentComplaint text c i
+        → IsDocumentComplaint text d j → (c ≡ d) × (i ≡ j) }
+    ensures none { (text : List ℕ) (c : Complaint) (i : ℕ) (g : EventGraph)
+        (applications : List RuleApplication) (h : EventGraph)
         → IsDocumentComplaint text c i → ReadsDocument text g applications h → ⊥ }
     ensures one_reading { (text : List ℕ) (g h k l : EventGraph) (a b : List RuleApplication)
         → ReadsDocument text g a h → ReadsDocument text k b l → (g ≡ k) × (a ≡ b) × (h ≡ l) }
     ensures some { (text : List ℕ) → length text ≤ DOCUMENT_MAX
-        → HasDocumentComplaint text ⊎ ((g : EventGraph) × (applications : List RuleApplication) × (h : EventGraph) × ReadsDocument text g applications h) }
+        → HasDocumentComplaint text
+        ⊎ ((g : EventGraph) × (applications : List RuleApplication) × (h : EventGraph)
+        × ReadsDocument text g applications h) }
 {
     accepted_or_one_fault();
 }
 
 /// A saved document within its limit has one complaint or reads as a model and a saved run, and never both.
 pub fn saved_documents_have_one_complaint()
-    ensures one { (text : List ℕ) (c d : Complaint) (i j : ℕ) → IsSavedComplaint text c i → IsSavedComplaint text d j → (c ≡ d) × (i ≡ j) }
-    ensures none { (text : List ℕ) (c : Complaint) (i : ℕ) (g : EventGraph) (s : SavedRun) → IsSavedComplaint text c i → ReadsSaved text g s → ⊥ }
-    ensures one_reading { (text : List ℕ) (g h : EventGraph) (s t : SavedRun) → ReadsSaved text g s → ReadsSaved text h t → (g ≡ h) × (s ≡ t) }
-    ensures some { (text : List ℕ) → length text ≤ DOCUMENT_MAX → HasSavedComplaint text ⊎ ((g : EventGraph) × (s : SavedRun) × ReadsSaved text g s) }
+    ensures one { (text : List ℕ) (c d : Complaint) (i j : ℕ) → IsSavedComplaint text c i
+        → IsSavedComplaint text d j → (c ≡ d) × (i ≡ j) }
+    ensures none { (text : List ℕ) (c : Complaint) (i : ℕ) (g : EventGraph) (s : SavedRun)
+        → IsSavedComplaint text c i → ReadsSaved text g s → ⊥ }
+    ensures one_reading { (text : List ℕ) (g h : EventGraph) (s t : SavedRun) → ReadsSaved text g s
+        → ReadsSaved text h t → (g ≡ h) × (s ≡ t) }
+    ensures some { (text : List ℕ) → length text ≤ DOCUMENT_MAX
+        → HasSavedComplaint text ⊎ ((g : EventGraph) × (s : SavedRun) × ReadsSaved text g s) }
 {
     accepted_or_one_fault();
     snapshots_have_one_reading();
@@ -45,7 +53,8 @@ pub fn saved_documents_have_one_complaint()
 
 /// What is answered to a document that reads as a model and a saved run is answered for these.
 pub fn read_runs_are_answered()
-    ensures { (job : SavedJob) (text : List ℕ) (g : EventGraph) (s : SavedRun) (a : Answer) → ReadsSaved text g s → Answers (OfSaved job) text a → AnswersSaved job g s a }
+    ensures { (job : SavedJob) (text : List ℕ) (g : EventGraph) (s : SavedRun) (a : Answer)
+        → ReadsSaved text g s → Answers (OfSaved job) text a → AnswersSaved job g s a }
 {
     saved_documents_have_one_complaint();
 }

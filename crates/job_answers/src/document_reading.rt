@@ -37,8 +37,11 @@ struct RawDocument {
 /// The parts that the tokens spell, one after the other. The program ends where a part isn't spelled, so the parts that are
 /// read by then aren't taken apart.
 fn parts(alloc: Global, pieces: &Pieces<'_>) -> Result<RawDocument, ReadingError>
-    ensures ok { IfOk result (λ d. SpellsDocument pieces.now.text.now (written_model d.first) (map application_of d.applications) (written_model d.second)) }
-    ensures complaint { (what : Complained) (at : ℕ) → result ≡ Err (ReadingError.At what at) → IsDocumentComplaint pieces.now.text.now what at }
+    ensures ok { IfOk result
+        (λ d. SpellsDocument pieces.now.text.now (written_model d.first)
+        (map application_of d.applications) (written_model d.second)) }
+    ensures complaint { (what : Complained) (at : ℕ) → result ≡ Err (ReadingError.At what at)
+        → IsDocumentComplaint pieces.now.text.now what at }
 {
     let (first, behind_first) = parse_front_pieces(alloc, pieces, 0)?;
     let (second, behind_second) = match parse_front_pieces(alloc, pieces, behind_first) {
@@ -65,8 +68,11 @@ fn parts(alloc: Global, pieces: &Pieces<'_>) -> Result<RawDocument, ReadingError
 
 /// The parts that the document spells, as they are written.
 fn written_parts(alloc: Global, text: &[u8]) -> Result<RawDocument, ReadingError>
-    ensures ok { IfOk result (λ d. SpellsDocument text.now (written_model d.first) (map application_of d.applications) (written_model d.second)) }
-    ensures complaint { (what : Complained) (at : ℕ) → result ≡ Err (ReadingError.At what at) → IsDocumentComplaint text.now what at }
+    ensures ok { IfOk result
+        (λ d. SpellsDocument text.now (written_model d.first) (map application_of d.applications)
+        (written_model d.second)) }
+    ensures complaint { (what : Complained) (at : ℕ) → result ≡ Err (ReadingError.At what at)
+        → IsDocumentComplaint text.now what at }
 {
     let pieces = pieces(alloc, text)?;
     parts(alloc, &pieces)
@@ -76,8 +82,11 @@ fn written_parts(alloc: Global, text: &[u8]) -> Result<RawDocument, ReadingError
 /// isn't accepted, so the other parts aren't taken apart then.
 pub fn document_of(alloc: Global, text: &[u8]) -> Result<Document, ReadingError>
     requires { length text.now ≤ DOCUMENT_MAX }
-    ensures ok { IfOk result (λ d. ReadsDocument text.now (graph_of d.original) (map application_of d.applications) (graph_of d.reduced)) }
-    ensures complaint { (what : Complained) (at : ℕ) → result ≡ Err (ReadingError.At what at) → IsDocumentComplaint text.now what at }
+    ensures ok { IfOk result
+        (λ d. ReadsDocument text.now (graph_of d.original) (map application_of d.applications)
+        (graph_of d.reduced)) }
+    ensures complaint { (what : Complained) (at : ℕ) → result ≡ Err (ReadingError.At what at)
+        → IsDocumentComplaint text.now what at }
 {
     let RawDocument {
         first,

@@ -39,7 +39,8 @@ pub(crate) fn write_history_from<'m, P: Pending + Drop, K: Sink>(
     requires one_model { tracer.model ≡ run.model }
     requires goes_on { run.faulted ≡ None }
     ensures { (room : ℕ) → room ≤ run.entry.spare + length run.entry.now.pending
-        → DeliversHistory K.seen (graph_of run.entry.model) until run.entry.seed events (moment_of run.entry tracer.entry) room result output.old output.new }
+        → DeliversHistory K.seen (graph_of run.entry.model) until run.entry.seed events
+        (moment_of run.entry tracer.entry) room result output.old output.new }
 {
     let mut run = run;
     let mut tracer = tracer;

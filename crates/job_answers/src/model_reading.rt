@@ -19,7 +19,8 @@ use std::alloc::Global;
 pub fn model_of(alloc: Global, text: &[u8]) -> Result<Model, ReadingError>
     requires { length text.now ≤ TEXT_MAX }
     ensures ok { IfOk result (λ model. Reads text.now (graph_of model)) }
-    ensures complaint { (what : Complained) (at : ℕ) → result ≡ Err (ReadingError.At what at) → IsComplaint text.now what at }
+    ensures complaint { (what : Complained) (at : ℕ) → result ≡ Err (ReadingError.At what at)
+        → IsComplaint text.now what at }
 {
     let pieces = pieces(alloc, text)?;
     match read_model(alloc, &pieces) {

@@ -32,9 +32,13 @@ pub struct SavedDocument {
 /// The model that the tokens begin with, as it is written, and the place after it, where the snapshot begins. A place is the
 /// number of tokens before it. The program ends after tokens that aren't spelled so, so the model isn't taken apart then.
 fn parts(alloc: Global, pieces: &Pieces<'_>) -> Result<(RawModel, usize), ReadingError>
-    ensures begins { IfOk result (λ r. BeginsWithModel (pieces_lexemes pieces.now) (written_model r.0) (drop r.1 (pieces_lexemes pieces.now))) }
-    ensures ends { IfOk result (λ r. (w : WrittenSnapshot) × IsSnapshot (drop r.1 (pieces_lexemes pieces.now)) w) }
-    ensures complaint { (what : Complained) (at : ℕ) → result ≡ Err (ReadingError.At what at) → IsSavedComplaint pieces.now.text.now what at }
+    ensures begins { IfOk result
+        (λ r. BeginsWithModel (pieces_lexemes pieces.now) (written_model r.0)
+        (drop r.1 (pieces_lexemes pieces.now))) }
+    ensures ends { IfOk result
+        (λ r. (w : WrittenSnapshot) × IsSnapshot (drop r.1 (pieces_lexemes pieces.now)) w) }
+    ensures complaint { (what : Complained) (at : ℕ) → result ≡ Err (ReadingError.At what at)
+        → IsSavedComplaint pieces.now.text.now what at }
 {
     let (model, behind) = parse_front_pieces(alloc, pieces, 0)?;
     match snapshot_fault_pieces(pieces, behind) {
@@ -54,7 +58,8 @@ fn parts(alloc: Global, pieces: &Pieces<'_>) -> Result<(RawModel, usize), Readin
 fn saved_in(alloc: Global, pieces: &Pieces<'_>) -> Result<SavedDocument, ReadingError>
     requires { length pieces.now.text.now ≤ DOCUMENT_MAX }
     ensures ok { IfOk result (λ d. ReadsSaved pieces.now.text.now (graph_of d.model) d.snapshot) }
-    ensures complaint { (what : Complained) (at : ℕ) → result ≡ Err (ReadingError.At what at) → IsSavedComplaint pieces.now.text.now what at }
+    ensures complaint { (what : Complained) (at : ℕ) → result ≡ Err (ReadingError.At what at)
+        → IsSavedComplaint pieces.now.text.now what at }
 {
     let (raw, behind) = parts(alloc, pieces)?;
     let model = match check(alloc, raw) {
@@ -82,7 +87,8 @@ pub fn saved_document_of(alloc: Global, text: &[u8]) -> Result<SavedDocument, Re
     requires { length text.now ≤ DOCUMENT_MAX }
     ensures ok { IfOk result (λ d. ReadsSaved text.now (graph_of d.model) d.snapshot) }
     ensures good { IfOk result (λ d. IsGood (graph_of d.model) d.snapshot) }
-    ensures complaint { (what : Complained) (at : ℕ) → result ≡ Err (ReadingError.At what at) → IsSavedComplaint text.now what at }
+    ensures complaint { (what : Complained) (at : ℕ) → result ≡ Err (ReadingError.At what at)
+        → IsSavedComplaint text.now what at }
 {
     let pieces = pieces(alloc, text)?;
     saved_in(alloc, &pieces)

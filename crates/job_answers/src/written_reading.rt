@@ -18,7 +18,8 @@ use std::alloc::Global;
 pub(crate) fn read_as_written(alloc: Global, pieces: &Pieces<'_>) -> Result<Model, ReadingError>
     requires { length pieces.now.text.now ≤ TEXT_MAX }
     ensures ok { IfOk result (λ model. Reads pieces.now.text.now (graph_of model)) }
-    ensures complaint { (what : Complained) (at : ℕ) → result ≡ Err (ReadingError.At what at) → IsComplaint pieces.now.text.now what at }
+    ensures complaint { (what : Complained) (at : ℕ) → result ≡ Err (ReadingError.At what at)
+        → IsComplaint pieces.now.text.now what at }
 {
     let raw = parse_pieces(alloc, pieces)?;
     Ok(check(alloc, raw)?)

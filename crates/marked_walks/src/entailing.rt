@@ -56,7 +56,9 @@ impl Finder {
         place: usize,
         nth: usize,
     ) -> Result<(), NoMemory>
-        ensures { OnOk result (found_of self.new ≡ find_nth (found_of self.old) (places_behind (N.lists next.now) place) nth) }
+        ensures { OnOk result
+            (found_of self.new
+            ≡ find_nth (found_of self.old) (places_behind (N.lists next.now) place) nth) }
     {
         match next.nth_successor(place, nth) {
             Some(found) => self.find(found),
@@ -66,7 +68,9 @@ impl Finder {
 
     /// Marks the successors of this place.
     fn follow_one<N: PlaceSuccessors>(&mut self, next: &N, place: usize) -> Result<(), NoMemory>
-        ensures { OnOk result (found_of self.new ≡ find_all (found_of self.old) (places_behind (N.lists next.now) place)) }
+        ensures { OnOk result
+            (found_of self.new
+            ≡ find_all (found_of self.old) (places_behind (N.lists next.now) place)) }
     {
         for nth in 0..next.successor_count(place) {
             self.follow_nth(next, place, nth)?;
@@ -93,7 +97,9 @@ pub fn entailed<N: PlaceSuccessors>(
     first: &[usize],
     next: &N,
 ) -> Result<Vec<bool>, NoMemory>
-    ensures { IfOk result (λ marks. marks.items ≡ entailed_marks (length (N.lists next.now)) first.now (pairs_from 0 (N.lists next.now))) }
+    ensures { IfOk result
+        (λ marks. marks.items
+        ≡ entailed_marks (length (N.lists next.now)) first.now (pairs_from 0 (N.lists next.now))) }
 {
     let mut finder = Finder::begin(alloc, next.place_count())?;
     finder.find_all(first)?;

@@ -10,7 +10,8 @@ pub fn keep<T>(items: &mut Vec<T>, stays: bool, kept: usize, place: usize) -> us
     requires before { kept ≤ place }
     requires there { place < length items.old.items }
     ensures count { result ≡ kept + cond stays 1 0 }
-    ensures front { take result items.new.items ≡ take kept items.old.items ++ cond stays (take 1 (drop place items.old.items)) [] }
+    ensures front { take result items.new.items
+        ≡ take kept items.old.items ++ cond stays (take 1 (drop place items.old.items)) [] }
     ensures rest { drop (place + 1) items.new.items ≡ drop (place + 1) items.old.items }
     ensures long { length items.new.items ≡ length items.old.items }
 {

@@ -31,7 +31,8 @@ impl NewPlaces for Staying {
 
 /// Gives the targets of edges their new places.
 fn renumber_edges<N: NewPlaces>(places: &N, edges: &mut Vec<Edge>)
-    ensures { map edge_of edges.new.items ≡ map (edge_renumbered (N.moved places.now)) (map edge_of edges.old.items) }
+    ensures { map edge_of edges.new.items
+        ≡ map (edge_renumbered (N.moved places.now)) (map edge_of edges.old.items) }
 {
     for edge in edges.iter_mut() {
         edge.target = places.place(edge.target);
@@ -40,7 +41,8 @@ fn renumber_edges<N: NewPlaces>(places: &N, edges: &mut Vec<Edge>)
 
 /// Gives the targets of all edges of vertices their new places.
 pub fn renumber_vertices<N: NewPlaces>(places: &N, vertices: &mut Vec<Vertex>)
-    ensures { map vertex_of vertices.new.items ≡ map (vertex_renumbered (N.moved places.now)) (map vertex_of vertices.old.items) }
+    ensures { map vertex_of vertices.new.items
+        ≡ map (vertex_renumbered (N.moved places.now)) (map vertex_of vertices.old.items) }
 {
     for vertex in vertices.iter_mut() {
         renumber_edges(places, vertex.edges.as_mut_vec());
@@ -61,7 +63,8 @@ fn renumbered<N: NewPlaces>(places: &N, watched: Watch) -> Watch
 
 /// Gives the watched vertices their new places.
 pub fn renumber_watch<N: NewPlaces>(places: &N, watch: &mut Vec<Watch>)
-    ensures { map watched_of watch.new.items ≡ map (watched_renumbered (N.moved places.now)) (map watched_of watch.old.items) }
+    ensures { map watched_of watch.new.items
+        ≡ map (watched_renumbered (N.moved places.now)) (map watched_of watch.old.items) }
 {
     for watched in watch.iter_mut() {
         *watched = renumbered(places, *watched);

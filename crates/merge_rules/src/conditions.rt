@@ -27,7 +27,8 @@ use use_analysis::writes_of_vertex;
 
 /// Whether the vertex has a plain urgent edge, and it leads to this vertex.
 fn leads_at_once(vertex: &Vertex, target: usize) -> bool
-    ensures { result ≡ option_map_or (leads_to target) (plain_urgent_edge (vertex_of vertex.now)) false }
+    ensures { result
+        ≡ option_map_or (leads_to target) (plain_urgent_edge (vertex_of vertex.now)) false }
 {
     match edge_at_once(vertex) {
         Some(edge) => edge.target == target,
@@ -63,7 +64,9 @@ fn is_unwatched(second: &Vertex, item: &Watch) -> bool
 }
 
 fn all_unwatched(second: &Vertex, watch: &[Watch]) -> bool
-    ensures { result ≡ list_all (is_unwatched (vertex_writes (vertex_of second.now))) (map watched_of watch.now) }
+    ensures { result
+        ≡ list_all (is_unwatched (vertex_writes (vertex_of second.now)))
+        (map watched_of watch.now) }
 {
     for item in watch {
         if !is_unwatched(second, item) {
@@ -96,14 +99,17 @@ fn quiet_edges(model: &Model, edges: &[Edge]) -> bool
 }
 
 fn quiet_parameter(model: &Model, var: usize, value: &Expr) -> bool
-    ensures { result ≡ quiet_set (graph_of model.now) (scalar_location var) (expression_of value.now) }
+    ensures { result
+        ≡ quiet_set (graph_of model.now) (scalar_location var) (expression_of value.now) }
 {
     let of = bounds(model, value);
     of.quiet && quiet_store(model, var, &of)
 }
 
 fn quiet_pairs(model: &Model, params: &[usize], values: &[Expr]) -> bool
-    ensures { result ≡ pointwise (quiet_set (graph_of model.now)) (map scalar_location params.now) (map expression_of values.now) }
+    ensures { result
+        ≡ pointwise (quiet_set (graph_of model.now)) (map scalar_location params.now)
+        (map expression_of values.now) }
 {
     if params.len() != values.len() {
         return false;
@@ -117,7 +123,9 @@ fn quiet_pairs(model: &Model, params: &[usize], values: &[Expr]) -> bool
 }
 
 fn quiet_parameters(model: &Model, params: &[usize], values: &[Expr]) -> bool
-    ensures { result ≡ list_all (quiet_change (graph_of model.now)) (set_parameters params.now (map expression_of values.now)) }
+    ensures { result
+        ≡ list_all (quiet_change (graph_of model.now))
+        (set_parameters params.now (map expression_of values.now)) }
 {
     params.is_empty() || quiet_pairs(model, params, values)
 }
@@ -152,7 +160,9 @@ fn second_acts_unseen(model: &Model, unseen: Option<bool>, second: &Vertex) -> b
 
 /// Whether the second vertex takes the values of the first one's plain urgent edge, and none can fault.
 fn takes_quietly(model: &Model, first: &Vertex, second: &Vertex) -> bool
-    ensures { result ≡ list_all (quiet_change (graph_of model.now)) (set_parameters (vertex_of second.now).parameters (values_at_once (vertex_of first.now))) }
+    ensures { result
+        ≡ list_all (quiet_change (graph_of model.now))
+        (set_parameters (vertex_of second.now).parameters (values_at_once (vertex_of first.now))) }
 {
     let params = second.params.as_slice();
     match edge_at_once(first) {
@@ -169,7 +179,9 @@ fn second_happens_unseen(
     second: &Vertex,
 ) -> bool
     requires { UnseenIsRight unseen (graph_of model.now) (vertex_of second.now) }
-    ensures { result ≡ happens_unseen (graph_of model.now) (vertex_of second.now) (values_at_once (vertex_of first.now)) }
+    ensures { result
+        ≡ happens_unseen (graph_of model.now) (vertex_of second.now)
+        (values_at_once (vertex_of first.now)) }
 {
     second_acts_unseen(model, unseen, second) && takes_quietly(model, first, second)
 }
@@ -183,7 +195,10 @@ fn others_stand_aside<R: ReadsWritten>(
     second: &Vertex,
 ) -> bool
     requires { R.ready readers.old (length model.now.vars) }
-    ensures is { result ≡ list_all (λ e. quiet_edge (graph_of model.now) e && reads_none_of (vertex_writes (vertex_of second.now)) e && not (has_drawn_delay e)) (other_edges (vertex_of first.now)) }
+    ensures is { result
+        ≡ list_all (λ e.
+        quiet_edge (graph_of model.now) e && reads_none_of (vertex_writes (vertex_of second.now)) e
+        && not (has_drawn_delay e)) (other_edges (vertex_of first.now)) }
     ensures same { readers.new ≡ readers.old }
 {
     let others = other_edges(first);
@@ -199,7 +214,10 @@ fn others_stand_aside<R: ReadsWritten>(
 /// Whether the first vertex isn't watched, or the second event happens unseen.
 fn notes_stay(model: &Model, unseen: Option<bool>, first: usize, a: &Vertex, b: &Vertex) -> bool
     requires { UnseenIsRight unseen (graph_of model.now) (vertex_of b.now) }
-    ensures { result ≡ (not (is_watched_vertex (graph_of model.now) first) || happens_unseen (graph_of model.now) (vertex_of b.now) (values_at_once (vertex_of a.now))) }
+    ensures { result
+        ≡ (not (is_watched_vertex (graph_of model.now) first)
+        || happens_unseen (graph_of model.now) (vertex_of b.now)
+        (values_at_once (vertex_of a.now))) }
 {
     !is_watched(model, first) || second_happens_unseen(model, unseen, a, b)
 }
@@ -220,7 +238,10 @@ fn failed_later<R: ReadsWritten>(
     requires first { vertex_of a.now ≡ vertex_at (graph_of model.now) first }
     requires second { vertex_of b.now ≡ vertex_at (graph_of model.now) second }
     ensures same { readers.new ≡ readers.old }
-    ensures failed { result ≡ first_failed (true ∷ true ∷ true ∷ drop 3 (take 7 (merge_conditions (graph_of model.now) first second))) }
+    ensures failed { result
+        ≡ first_failed
+        (true ∷ true ∷ true
+        ∷ drop 3 (take 7 (merge_conditions (graph_of model.now) first second))) }
 {
     if is_watched(model, second) {
         return Some(4);
@@ -248,10 +269,12 @@ pub(crate) fn failed_before_limits<R: ReadsWritten>(
     second: usize,
 ) -> Option<u8>
     requires single { single ≡ single_urgent (graph_of model.now) }
-    requires unseen { UnseenIsRight unseen (graph_of model.now) (vertex_at (graph_of model.now) second) }
+    requires unseen { UnseenIsRight unseen (graph_of model.now)
+        (vertex_at (graph_of model.now) second) }
     requires ready { R.ready readers.old (length model.now.vars) }
     ensures same { readers.new ≡ readers.old }
-    ensures failed { result ≡ first_failed (take 7 (merge_conditions (graph_of model.now) first second)) }
+    ensures failed { result
+        ≡ first_failed (take 7 (merge_conditions (graph_of model.now) first second)) }
 {
     let vertices = model.vertices.as_slice();
     let Some(a) = vertices.get(first) else {

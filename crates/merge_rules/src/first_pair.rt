@@ -17,7 +17,8 @@ use model_core::{Model, Vertex};
 
 /// The place of the vertex to which the plain urgent edge leads, if there is one.
 pub(crate) fn target_at_once(vertex: &Vertex) -> Option<usize>
-    ensures { result ≡ option_map (λ (e : EventEdge). e.target) (plain_urgent_edge (vertex_of vertex.now)) }
+    ensures { result
+        ≡ option_map (λ (e : EventEdge). e.target) (plain_urgent_edge (vertex_of vertex.now)) }
 {
     match edge_at_once(vertex) {
         Some(edge) => Some(edge.target),

@@ -23,15 +23,20 @@ pub(crate) struct Growth {
 /// How many bytes the lines of the changes and edges of the vertex at this place have, or 2^64 - 1 where they have more.
 pub(crate) fn body_at(model: &Model, vertex: usize) -> u64
     requires { vertex < length model.now.vertices }
-    ensures { result ≡ capped (length (body_lines (graph_of model.now) (vertex_at (graph_of model.now) vertex))) }
+    ensures { result
+        ≡ capped (length
+        (body_lines (graph_of model.now) (vertex_at (graph_of model.now) vertex))) }
 {
     body_length(&model.vertices.as_slice()[vertex], model)
 }
 
 /// How a merge of the two changes the length, where the lines of the second one's changes and edges have so many bytes.
 pub(crate) fn grows_by(model: &Model, first: usize, second: usize, body: u64) -> Growth
-    requires holds { first_failed (take 7 (merge_conditions (graph_of model.now) first second)) ≡ None }
-    requires body { body ≡ capped (length (body_lines (graph_of model.now) (vertex_at (graph_of model.now) second))) }
+    requires holds { first_failed (take 7 (merge_conditions (graph_of model.now) first second))
+        ≡ None }
+    requires body { body
+        ≡ capped (length
+        (body_lines (graph_of model.now) (vertex_at (graph_of model.now) second))) }
     ensures { result ≡ growth (graph_of model.now) first }
 {
     let vertices = model.vertices.as_slice();

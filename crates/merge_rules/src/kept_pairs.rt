@@ -84,7 +84,8 @@ pub(crate) fn add_edges(pairs: &mut Vec<KeptPair>, edges: &[Edge]) -> Result<(),
 
 /// Counts the edges of these vertices too.
 pub(crate) fn add_all_edges(pairs: &mut Vec<KeptPair>, vertices: &[Vertex]) -> Result<(), NoMemory>
-    ensures { OnOk result (pairs.new.items ≡ all_edges_added (map vertex_of vertices.now) pairs.old.items) }
+    ensures { OnOk result
+        (pairs.new.items ≡ all_edges_added (map vertex_of vertices.now) pairs.old.items) }
 {
     for vertex in vertices {
         add_edges(pairs, vertex.edges.as_slice())?;
@@ -157,7 +158,8 @@ pub(crate) fn take_over_pairs(
     second: usize,
     edges: &[Edge],
 ) -> Result<(), NoMemory>
-    ensures { OnOk result (pairs.new.items ≡ pairs_merged first second (map edge_of edges.now) pairs.old.items) }
+    ensures { OnOk result
+        (pairs.new.items ≡ pairs_merged first second (map edge_of edges.now) pairs.old.items) }
 {
     add_edges(pairs, edges)?;
     take_edge(pairs, second);

@@ -48,7 +48,8 @@ impl std::marker::Model for KeptPairs {
 
 /// The edges of the vertex at this place.
 fn edges_at(vertices: &[Vertex], place: usize) -> &[Edge]
-    ensures { map edge_of result.now ≡ (slice_index_or (map vertex_of vertices.now) place no_vertex).edges }
+    ensures { map edge_of result.now
+        ≡ (slice_index_or (map vertex_of vertices.now) place no_vertex).edges }
 {
     match vertices.get(place) {
         Some(vertex) => vertex.edges.as_slice(),
@@ -65,7 +66,8 @@ fn pair_fits(
     first: usize,
     second: usize,
 ) -> bool
-    requires unseen { UnseenIsRight unseen (graph_of model.now) (vertex_at (graph_of model.now) second) }
+    requires unseen { UnseenIsRight unseen (graph_of model.now)
+        (vertex_at (graph_of model.now) second) }
     requires counts { NothingCounted (length model.now.vars) counts.old }
     requires single { single_urgent (graph_of model.now) ≡ true }
     requires target { target_at_once (vertex_at (graph_of model.now) first) ≡ Some second }
@@ -140,7 +142,8 @@ impl KeptPairs {
     fn find_unseen(&mut self, model: &Model, vertex: usize) -> bool
         requires kept { PairsAreRight (graph_of model.now) self.old }
         requires there { vertex < length model.now.vertices }
-        ensures is { result ≡ acts_unseen (graph_of model.now) (vertex_at (graph_of model.now) vertex) }
+        ensures is { result
+            ≡ acts_unseen (graph_of model.now) (vertex_at (graph_of model.now) vertex) }
         ensures kept { PairsAreRight (graph_of model.now) self.new }
     {
         let pair = self.pairs[vertex];
@@ -158,7 +161,8 @@ impl KeptPairs {
     /// Whether the second of two acts unseen, where it matters: where the first is watched.
     fn unseen_where_watched(&mut self, model: &Model, first: usize, second: usize) -> Option<bool>
         requires { PairsAreRight (graph_of model.now) self.old }
-        ensures unseen { UnseenIsRight result (graph_of model.now) (vertex_at (graph_of model.now) second) }
+        ensures unseen { UnseenIsRight result (graph_of model.now)
+            (vertex_at (graph_of model.now) second) }
         ensures kept { PairsAreRight (graph_of model.now) self.new }
     {
         if second < model.vertices.len() && is_watched(model, first) {
@@ -330,8 +334,10 @@ impl KeptPairs {
     /// Notes the drop of a vertex that has these edges, to which no edge leads and which isn't watched.
     fn take_away(&mut self, edges: &[Edge], gone: usize)
         requires { gone < length self.old }
-        ensures { (g : EventGraph) → PairsAreRight g self.old → IsValid g → has_incoming g gone ≡ false → is_watched_vertex g gone ≡ false
-            → map edge_of edges.now ≡ (vertex_at g gone).edges → PairsAreRight (dropped g (gone ∷ [])) self.new }
+        ensures { (g : EventGraph) → PairsAreRight g self.old → IsValid g
+            → has_incoming g gone ≡ false → is_watched_vertex g gone ≡ false
+            → map edge_of edges.now ≡ (vertex_at g gone).edges
+            → PairsAreRight (dropped g (gone ∷ [])) self.new }
     {
         validity_is_by_parts();
         take_edges(&mut self.pairs, edges);
@@ -346,7 +352,8 @@ impl KeptPairs {
         requires valid { IsValid (graph_of model.now) }
         requires holds { first_failed (merge_conditions (graph_of model.now) first second) ≡ None }
         requires unled { has_incoming (merged (graph_of model.now) first second) second ≡ false }
-        ensures { PairsAreRight (dropped (merged (graph_of model.now) first second) (second ∷ [])) self.new }
+        ensures { PairsAreRight
+            (dropped (merged (graph_of model.now) first second) (second ∷ [])) self.new }
     {
         merging_keeps_the_meaning();
         self.take_away(edges_at(model.vertices.as_slice(), second), second);

@@ -71,8 +71,10 @@ impl FactsOfModel {
     /// was with them.
     pub fn single_without_parts(&self) -> Option<bool>
         ensures is { result ≡ still_single self.now.single }
-        ensures dropped { (g : EventGraph) (vertices : List ℕ) → FactsAreRight g self.now → SingleIsRight (dropped g vertices) result }
-        ensures pruned { (g : EventGraph) (vertex edge : ℕ) → FactsAreRight g self.now → SingleIsRight (pruned g vertex edge) result }
+        ensures dropped { (g : EventGraph) (vertices : List ℕ) → FactsAreRight g self.now
+            → SingleIsRight (dropped g vertices) result }
+        ensures pruned { (g : EventGraph) (vertex edge : ℕ) → FactsAreRight g self.now
+            → SingleIsRight (pruned g vertex edge) result }
     {
         match self.single {
             Some(single) if single => Some(single),
@@ -82,7 +84,8 @@ impl FactsOfModel {
 
     /// What is known after a drop: that the model is single urgent, where it was.
     pub fn keep_single_after_drop(&mut self)
-        ensures { (g : EventGraph) (vertices : List ℕ) → FactsAreRight g self.old → FactsAreRight (dropped g vertices) self.new }
+        ensures { (g : EventGraph) (vertices : List ℕ) → FactsAreRight g self.old
+            → FactsAreRight (dropped g vertices) self.new }
     {
         self.single = self.single_without_parts();
         self.lines = None;
@@ -122,7 +125,8 @@ impl FactsOfModel {
     /// How many bytes the canonical text of the model has, or None where that isn't known or they are 2^64 or more.
     pub fn text_length(&self) -> Option<u64>
         ensures is { result ≡ in_64_bits (text_length self.now) }
-        ensures measured { (g : EventGraph) → FactsAreRight g self.now → TextLengthIsRight g result }
+        ensures measured { (g : EventGraph) → FactsAreRight g self.now
+            → TextLengthIsRight g result }
     {
         let version = version_length(self.version_two?);
         self.lines?.checked_add(version)
@@ -157,7 +161,9 @@ impl FactsOfModel {
     pub(crate) fn find_body(&mut self, model: &Model, vertex: usize) -> u64
         requires known { FactsAreRight (graph_of model.now) self.old }
         requires there { vertex < length model.now.vertices }
-        ensures is { result ≡ capped (length (body_lines (graph_of model.now) (vertex_at (graph_of model.now) vertex))) }
+        ensures is { result
+            ≡ capped (length
+            (body_lines (graph_of model.now) (vertex_at (graph_of model.now) vertex))) }
         ensures known { FactsAreRight (graph_of model.now) self.new }
     {
         if let Some(bytes) = self.bodies.get(vertex) {
@@ -181,7 +187,9 @@ impl FactsOfModel {
         requires known { FactsAreRight (graph_of model.now) self.old }
         requires holds { first_failed (merge_conditions (graph_of model.now) first second) ≡ None }
         requires grows { grows ≡ growth (graph_of model.now) first }
-        ensures is { LengthIsRight result (body_lines (merged (graph_of model.now) first second) (vertex_at (merged (graph_of model.now) first second) first)) }
+        ensures is { LengthIsRight result
+            (body_lines (merged (graph_of model.now) first second)
+            (vertex_at (merged (graph_of model.now) first second) first)) }
         ensures known { FactsAreRight (graph_of model.now) self.new }
     {
         let body = self.find_body(model, first);

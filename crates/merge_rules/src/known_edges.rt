@@ -30,7 +30,8 @@ fn edge_at(model: &Model, vertex: usize, edge: usize) -> Option<&Edge>
 /// What is left of so many bytes without these, or None where one of the two isn't known to the last byte.
 fn bytes_after_loss(bytes: Option<u64>, gone: u64) -> Option<u64>
     ensures is { result ≡ bytes_left bytes gone }
-    ensures left { IfSome result (λ left. (bytes ≡ Some (left + gone)) × (left + gone < 2 ^ 64 - 1)) }
+    ensures left { IfSome result
+        (λ left. (bytes ≡ Some (left + gone)) × (left + gone < 2 ^ 64 - 1)) }
 {
     let bytes = bytes?;
     if bytes == u64::MAX {
@@ -41,7 +42,8 @@ fn bytes_after_loss(bytes: Option<u64>, gone: u64) -> Option<u64>
 
 /// How many bytes a condition has in its edge's line, with the word before it, or 2^64 - 1 where it has more.
 fn condition_length(condition: &Expr, model: &Model) -> u64
-    ensures { result ≡ capped (length (condition_text (graph_of model.now) (expression_of condition.now))) }
+    ensures { result
+        ≡ capped (length (condition_text (graph_of model.now) (expression_of condition.now))) }
 {
     if matches!(condition, Expr::Truth(true)) {
         return 0;
@@ -52,7 +54,8 @@ fn condition_length(condition: &Expr, model: &Model) -> u64
 /// Whether only a text of version 2 can write a model without this edge, or None where that isn't known: where it draws its delay.
 fn version_without(version_two: Option<bool>, edge: &Edge) -> Option<bool>
     ensures is { result ≡ cond (has_drawn_delay (edge_of edge.now)) None version_two }
-    ensures undrawn { IfSome result (λ two. (version_two ≡ Some two) × (has_drawn_delay (edge_of edge.now) ≡ false)) }
+    ensures undrawn { IfSome result
+        (λ two. (version_two ≡ Some two) × (has_drawn_delay (edge_of edge.now) ≡ false)) }
 {
     if has_drawn_delay(edge) {
         None
@@ -65,8 +68,10 @@ fn version_without(version_two: Option<bool>, edge: &Edge) -> Option<bool>
 /// Whether that one needs version 2 of a text, and is single urgent, is known of it already, where it is.
 fn lose_bytes(known: &mut FactsOfModel, vertex: usize, gone: u64)
     ensures is { known.new ≡ facts_after_loss known.old vertex gone }
-    ensures loses { (g h : EventGraph) (bytes : ℕ) → gone ≡ capped bytes → HasFewerBytes g h vertex bytes
-        → LinesAreRight g known.old.lines → BodiesAreRight g known.old.bodies → VersionIsRight h known.old.version_two → SingleIsRight h known.old.single
+    ensures loses { (g h : EventGraph) (bytes : ℕ) → gone ≡ capped bytes
+        → HasFewerBytes g h vertex bytes
+        → LinesAreRight g known.old.lines → BodiesAreRight g known.old.bodies
+        → VersionIsRight h known.old.version_two → SingleIsRight h known.old.single
         → FactsAreRight h known.new }
 {
     known.lines = bytes_after_loss(known.lines, gone);
@@ -79,7 +84,8 @@ fn lose_bytes(known: &mut FactsOfModel, vertex: usize, gone: u64)
 pub fn keep_after_prune(model: &Model, known: &mut FactsOfModel, vertex: usize, edge: usize)
     requires known { FactsAreRight (graph_of model.now) known.old }
     ensures is { known.new ≡ facts_after_prune (graph_of model.now) vertex edge known.old }
-    ensures known { first_failed (prune_conditions (graph_of model.now) vertex edge) ≡ None → FactsAreRight (pruned (graph_of model.now) vertex edge) known.new }
+    ensures known { first_failed (prune_conditions (graph_of model.now) vertex edge) ≡ None
+        → FactsAreRight (pruned (graph_of model.now) vertex edge) known.new }
 {
     let Some(edge) = edge_at(model, vertex, edge) else {
         return;
@@ -109,7 +115,8 @@ fn single_settled(model: &Model, single: Option<bool>, vertex: usize, edge: usiz
 pub fn keep_after_settle(model: &Model, known: &mut FactsOfModel, vertex: usize, edge: usize)
     requires known { FactsAreRight (graph_of model.now) known.old }
     ensures is { known.new ≡ facts_after_settle (graph_of model.now) vertex edge known.old }
-    ensures known { first_failed (settle_conditions (graph_of model.now) vertex edge) ≡ None → FactsAreRight (settled (graph_of model.now) vertex edge) known.new }
+    ensures known { first_failed (settle_conditions (graph_of model.now) vertex edge) ≡ None
+        → FactsAreRight (settled (graph_of model.now) vertex edge) known.new }
 {
     let Some(settled) = edge_at(model, vertex, edge) else {
         return;

@@ -3,7 +3,7 @@
 ghost use Rattle.std.specs.Prelude.{◌≡◌, true, Some, None, length, OnOk, OnErr, IfErr};
 ghost use Rattle.model_core.specs.Text.Canonical.{canonical};
 ghost use Rattle.model_core.specs.Rules.Conditions.{first_failed};
-ghost use Rattle.model_core.specs.Rules.ConditionTold.{NamesCondition};
+ghost use Rattle.model_core.specs.Rules.RefusedCondition.{NamesCondition};
 ghost use Rattle.model_core.specs.Rules.Merge.{merge_conditions, merged};
 ghost use Rattle.model_core.specs.Code.Views.{graph_of};
 ghost use Rattle.merge_rules.specs.Growth.{bytes_leaving};
@@ -68,10 +68,13 @@ pub fn merge_holding(
 ) -> Result<(), NoMemory>
     requires known { FactsAreRight (graph_of model.old) known.old }
     requires holds { first_failed (merge_conditions (graph_of model.old) vertex target) ≡ None }
-    ensures done { OnOk result (graph_of model.new ≡ merged_leaving second (graph_of model.old) vertex target) }
+    ensures done { OnOk result
+        (graph_of model.new ≡ merged_leaving second (graph_of model.old) vertex target) }
     ensures unchanged { OnErr result (graph_of model.new ≡ graph_of model.old) }
     ensures known { FactsAreRight (graph_of model.new) known.new }
-    ensures measured { OnOk result ((text_length known.new ≡ Some (length (canonical (graph_of model.new)))) × (known.new.single ≡ Some true)) }
+    ensures measured { OnOk result
+        ((text_length known.new ≡ Some (length (canonical (graph_of model.new))))
+        × (known.new.single ≡ Some true)) }
 {
     let body = known.find_body(model, target);
     let grows = grows_by(model, vertex, target, body);
@@ -102,12 +105,17 @@ pub fn merge_measured(
 ) -> Result<(), RuleError>
     requires known { FactsAreRight (graph_of model.old) known.old }
     requires counts { NothingCounted (length model.old.vars) counts.old }
-    ensures done { OnOk result ((first_failed (merge_conditions (graph_of model.old) vertex target) ≡ None)
+    ensures done { OnOk result
+        ((first_failed (merge_conditions (graph_of model.old) vertex target) ≡ None)
         × (graph_of model.new ≡ merged_leaving second (graph_of model.old) vertex target)) }
-    ensures refused { IfErr result (λ e. NamesCondition e (first_failed (merge_conditions (graph_of model.old) vertex target))) }
+    ensures refused { IfErr result
+        (λ e. NamesCondition e
+        (first_failed (merge_conditions (graph_of model.old) vertex target))) }
     ensures unchanged { OnErr result (graph_of model.new ≡ graph_of model.old) }
     ensures known { FactsAreRight (graph_of model.new) known.new }
-    ensures measured { OnOk result ((text_length known.new ≡ Some (length (canonical (graph_of model.new)))) × (known.new.single ≡ Some true)) }
+    ensures measured { OnOk result
+        ((text_length known.new ≡ Some (length (canonical (graph_of model.new))))
+        × (known.new.single ≡ Some true)) }
     ensures counts { counts.new ≡ counts.old }
 {
     if let Some(condition) = failed_merge(model, known, counts, vertex, target) {
@@ -126,9 +134,12 @@ pub fn merge(
     vertex: usize,
     target: usize,
 ) -> Result<(), RuleError>
-    ensures done { OnOk result ((first_failed (merge_conditions (graph_of model.old) vertex target) ≡ None)
+    ensures done { OnOk result
+        ((first_failed (merge_conditions (graph_of model.old) vertex target) ≡ None)
         × (graph_of model.new ≡ merged (graph_of model.old) vertex target)) }
-    ensures refused { IfErr result (λ e. NamesCondition e (first_failed (merge_conditions (graph_of model.old) vertex target))) }
+    ensures refused { IfErr result
+        (λ e. NamesCondition e
+        (first_failed (merge_conditions (graph_of model.old) vertex target))) }
     ensures unchanged { OnErr result (graph_of model.new ≡ graph_of model.old) }
 {
     let mut counts = UseCounts::begin(alloc, model)?;

@@ -17,7 +17,8 @@ pub(crate) struct OtherEdges<'e> {
 
 /// The edges of the vertex but its plain urgent one: all, where it has none.
 pub(crate) fn other_edges(vertex: &Vertex) -> OtherEdges<'_>
-    ensures { map edge_of (result.before.now ++ result.behind.now) ≡ other_edges (vertex_of vertex.now) }
+    ensures { map edge_of (result.before.now ++ result.behind.now)
+        ≡ other_edges (vertex_of vertex.now) }
 {
     let edges = vertex.edges.as_slice();
     match plain_urgent(vertex) {
@@ -31,7 +32,8 @@ pub(crate) fn other_edges(vertex: &Vertex) -> OtherEdges<'_>
 
 /// All of these edges but the one at this place.
 fn all_but(edges: &[Edge], place: usize) -> OtherEdges<'_>
-    ensures { map edge_of (result.before.now ++ result.behind.now) ≡ remove (map edge_of edges.now) place }
+    ensures { map edge_of (result.before.now ++ result.behind.now)
+        ≡ remove (map edge_of edges.now) place }
 {
     if place < edges.len() {
         OtherEdges {

@@ -28,7 +28,9 @@ pub(crate) trait ReadsWritten {
         vertex: &Vertex,
     ) -> bool
         requires { ready self.old (length model.now.vars) }
-        ensures is { result ≡ list_any (reads_one_of (vertex_writes (vertex_of vertex.now))) (map edge_of (before.now ++ behind.now)) }
+        ensures is { result
+            ≡ list_any (reads_one_of (vertex_writes (vertex_of vertex.now)))
+            (map edge_of (before.now ++ behind.now)) }
         ensures same { self.new ≡ self.old };
 }
 
@@ -100,7 +102,8 @@ impl NumberTest for ReadBy<'_> {
 }
 
 fn one_walked(edges: &[Edge], vertex: &Vertex) -> bool
-    ensures { result ≡ list_any (reads_one_of (vertex_writes (vertex_of vertex.now))) (map edge_of edges.now) }
+    ensures { result
+        ≡ list_any (reads_one_of (vertex_writes (vertex_of vertex.now))) (map edge_of edges.now) }
 {
     for edge in edges {
         if one_written_passes(&ReadBy { edge }, vertex) {
@@ -111,7 +114,9 @@ fn one_walked(edges: &[Edge], vertex: &Vertex) -> bool
 }
 
 fn walked(before: &[Edge], behind: &[Edge], vertex: &Vertex) -> bool
-    ensures { result ≡ list_any (reads_one_of (vertex_writes (vertex_of vertex.now))) (map edge_of (before.now ++ behind.now)) }
+    ensures { result
+        ≡ list_any (reads_one_of (vertex_writes (vertex_of vertex.now)))
+        (map edge_of (before.now ++ behind.now)) }
 {
     one_walked(before, vertex) || one_walked(behind, vertex)
 }
@@ -152,7 +157,8 @@ fn one_reads(edges: &[Edge], var: usize) -> bool
 
 fn add_edges(counts: &mut UseCounts, edges: &[Edge])
     requires { (v : ℕ) → slice_index counts.old.readers v + length edges.now < 2 ^ 32 }
-    ensures { counts.new ≡ record counts.old { readers = counted (map edge_of edges.now) counts.old.readers } }
+    ensures { counts.new
+        ≡ record counts.old { readers = counted (map edge_of edges.now) counts.old.readers } }
 {
     for edge in edges {
         counts.add_edge(edge);
@@ -160,8 +166,10 @@ fn add_edges(counts: &mut UseCounts, edges: &[Edge])
 }
 
 fn take_edges(counts: &mut UseCounts, edges: &[Edge])
-    requires { (v : ℕ) → v < length counts.old.readers → count_by (reads_it v) (map edge_of edges.now) ≤ slice_index counts.old.readers v }
-    ensures { counts.new ≡ record counts.old { readers = uncounted (map edge_of edges.now) counts.old.readers } }
+    requires { (v : ℕ) → v < length counts.old.readers
+        → count_by (reads_it v) (map edge_of edges.now) ≤ slice_index counts.old.readers v }
+    ensures { counts.new
+        ≡ record counts.old { readers = uncounted (map edge_of edges.now) counts.old.readers } }
 {
     for edge in edges {
         counts.take_edge(edge);

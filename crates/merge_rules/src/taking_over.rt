@@ -50,8 +50,10 @@ fn make_room(
 ) -> Result<(), NoMemory>
     ensures changes { changes.new.items ≡ changes.old.items }
     ensures edges { edges.new.items ≡ edges.old.items }
-    ensures room_for_changes { OnOk result (vec_len changes.new + 1 + length other.now.changes ≤ vec_capacity changes.new) }
-    ensures room_for_edges { OnOk result (vec_len edges.new + length other.now.edges ≤ vec_capacity edges.new) }
+    ensures room_for_changes { OnOk result
+        (vec_len changes.new + 1 + length other.now.changes ≤ vec_capacity changes.new) }
+    ensures room_for_edges { OnOk result
+        (vec_len edges.new + length other.now.edges ≤ vec_capacity edges.new) }
 {
     let Some(more) = other.changes.len().checked_add(1) else {
         return Err(NoMemory);
@@ -65,7 +67,8 @@ fn make_room(
 fn add_set(changes: &mut Vec<Change>, vars: &[usize], targets: List<Target>, values: List<Expr>)
     requires targets { map location_of targets ≡ map scalar_location vars.now }
     requires room { vec_len changes.old < vec_capacity changes.old }
-    ensures items { map change_of changes.new.items ≡ map change_of changes.old.items ++ set_parameters vars.now (map expression_of values) }
+    ensures items { map change_of changes.new.items
+        ≡ map change_of changes.old.items ++ set_parameters vars.now (map expression_of values) }
     ensures len { vec_len changes.new ≤ vec_len changes.old + 1 }
     ensures capacity { vec_capacity changes.old ≤ vec_capacity changes.new }
 {
@@ -94,10 +97,16 @@ fn put_in_place(
 )
     requires place { place < vec_len edges.old }
     requires targets { map location_of targets ≡ map scalar_location other.params }
-    requires room_for_changes { vec_len changes.old + 1 + length other.changes ≤ vec_capacity changes.old }
+    requires room_for_changes { vec_len changes.old + 1 + length other.changes
+        ≤ vec_capacity changes.old }
     requires room_for_edges { vec_len edges.old + length other.edges ≤ vec_capacity edges.old }
-    ensures changes { map change_of changes.new.items ≡ map change_of changes.old.items ++ set_parameters other.params (option_map_or (λ (e : EventEdge). e.values) (slice_get (map edge_of edges.old.items) place) []) ++ map change_of other.changes }
-    ensures edges { map edge_of edges.new.items ≡ remove (map edge_of edges.old.items) place ++ map edge_of other.edges }
+    ensures changes { map change_of changes.new.items
+        ≡ map change_of changes.old.items
+        ++ set_parameters other.params
+        (option_map_or (λ (e : EventEdge). e.values)
+        (slice_get (map edge_of edges.old.items) place) []) ++ map change_of other.changes }
+    ensures edges { map edge_of edges.new.items
+        ≡ remove (map edge_of edges.old.items) place ++ map edge_of other.edges }
 {
     let edge = edges.remove(place);
     let (_, params, more_changes, more_edges) = other.into_parts();
@@ -116,7 +125,8 @@ fn take_over(
 ) -> Result<(), Vertex>
     requires at { plain_urgent (vertex_of vertex.old) ≡ Some place }
     requires targets { map location_of targets ≡ map scalar_location other.params }
-    ensures done { OnOk result (vertex_of vertex.new ≡ merged_with (vertex_of other) (vertex_of vertex.old)) }
+    ensures done { OnOk result
+        (vertex_of vertex.new ≡ merged_with (vertex_of other) (vertex_of vertex.old)) }
     ensures unchanged { OnErr result (vertex_of vertex.new ≡ vertex_of vertex.old) }
     ensures given_back { IfErr result (λ back. vertex_of back ≡ vertex_of other) }
 {
@@ -143,7 +153,9 @@ fn take_over_at(
     requires first { first < length model.old.vertices }
     requires at { plain_urgent (vertex_at (graph_of model.old) first) ≡ Some place }
     requires targets { map location_of targets ≡ map scalar_location other.params }
-    ensures done { OnOk result (graph_of model.new ≡ with_vertex (merged_with (vertex_of other)) first (graph_of model.old)) }
+    ensures done { OnOk result
+        (graph_of model.new
+        ≡ with_vertex (merged_with (vertex_of other)) first (graph_of model.old)) }
     ensures unchanged { OnErr result (graph_of model.new ≡ graph_of model.old) }
     ensures given_back { IfErr result (λ back. vertex_of back ≡ vertex_of other) }
 {
@@ -169,7 +181,8 @@ fn hollow_copy(alloc: Global, vertex: &Vertex) -> Result<Vertex, NoMemory>
 
 /// A copy of what is left of a vertex.
 fn copy_second(alloc: Global, vertex: &Vertex, second: SecondVertex) -> Result<Vertex, NoMemory>
-    ensures { IfOk result (λ copy. vertex_of copy ≡ second_after_merge second (vertex_of vertex.now)) }
+    ensures { IfOk result
+        (λ copy. vertex_of copy ≡ second_after_merge second (vertex_of vertex.now)) }
 {
     match second {
         SecondVertex::Stays => copy_vertex(alloc, vertex),
@@ -181,7 +194,11 @@ fn copy_second(alloc: Global, vertex: &Vertex, second: SecondVertex) -> Result<V
 fn replace_at(model: &mut Model, place: usize, vertex: Vertex) -> Vertex
     requires { place < length model.old.vertices }
     ensures given { vertex_of result ≡ vertex_at (graph_of model.old) place }
-    ensures put { graph_of model.new ≡ record (graph_of model.old) { vertices = slice_set (graph_of model.old).vertices place (vertex_of vertex) } }
+    ensures put { graph_of model.new
+        ≡ record (graph_of model.old) {
+          vertices = slice_set (graph_of model.old).vertices place
+              (vertex_of vertex);
+        } }
 {
     mem::replace(&mut model.vertices.as_mut_vec()[place], vertex)
 }
@@ -200,7 +217,8 @@ pub(crate) fn put_together(
     requires target { target < length model.old.vertices }
     requires apart { (first == target) ≡ false }
     requires at { plain_urgent (vertex_at (graph_of model.old) first) ≡ Some place }
-    ensures done { OnOk result (graph_of model.new ≡ merged_leaving second (graph_of model.old) first target) }
+    ensures done { OnOk result
+        (graph_of model.new ≡ merged_leaving second (graph_of model.old) first target) }
     ensures unchanged { OnErr result (graph_of model.new ≡ graph_of model.old) }
 {
     let vertex = &model.vertices.as_slice()[target];

@@ -29,7 +29,9 @@ fn set_count(params: &[usize]) -> usize
 
 /// How many changes the first vertex has with those of the second, or 2^64 - 1 where they are more.
 fn changes_together(first: &Vertex, second: &Vertex) -> usize
-    ensures { (place : ℕ) → plain_urgent (vertex_of first.now) ≡ Some place → result ≡ min (length (merged_with (vertex_of second.now) (vertex_of first.now)).changes) (2 ^ 64 - 1) }
+    ensures { (place : ℕ) → plain_urgent (vertex_of first.now) ≡ Some place
+        → result ≡ min (length (merged_with (vertex_of second.now) (vertex_of first.now)).changes)
+        (2 ^ 64 - 1) }
 {
     first
         .changes
@@ -41,7 +43,9 @@ fn changes_together(first: &Vertex, second: &Vertex) -> usize
 /// How many edges the first vertex has but its plain urgent one and with those of the second, or 2^64 - 1 where they are
 /// more.
 fn edges_together(first: &Vertex, second: &Vertex) -> usize
-    ensures { (place : ℕ) → plain_urgent (vertex_of first.now) ≡ Some place → result ≡ min (length (merged_with (vertex_of second.now) (vertex_of first.now)).edges) (2 ^ 64 - 1) }
+    ensures { (place : ℕ) → plain_urgent (vertex_of first.now) ≡ Some place
+        → result ≡ min (length (merged_with (vertex_of second.now) (vertex_of first.now)).edges)
+        (2 ^ 64 - 1) }
 {
     first
         .edges
@@ -53,7 +57,8 @@ fn edges_together(first: &Vertex, second: &Vertex) -> usize
 /// Whether the first vertex, which has a plain urgent edge, keeps the limits on changes and edges with those of the second
 /// beside its own.
 fn has_few_parts(first: &Vertex, second: &Vertex) -> bool
-    ensures { (place : ℕ) → plain_urgent (vertex_of first.now) ≡ Some place → result ≡ has_few_parts (merged_with (vertex_of second.now) (vertex_of first.now)) }
+    ensures { (place : ℕ) → plain_urgent (vertex_of first.now) ≡ Some place
+        → result ≡ has_few_parts (merged_with (vertex_of second.now) (vertex_of first.now)) }
 {
     changes_together(first, second) <= CHANGES_MAX && edges_together(first, second) <= EDGES_MAX
 }
@@ -71,9 +76,11 @@ pub(crate) fn urgent_place(first: &Vertex) -> usize
 /// 2^64 - 1 where it has more.
 fn length_without(model: &Model, bytes: Option<u64>, first: usize, second: usize, gone: u64) -> u64
     requires measured { TextLengthIsRight (graph_of model.now) bytes }
-    requires holds { first_failed (take 7 (merge_conditions (graph_of model.now) first second)) ≡ None }
+    requires holds { first_failed (take 7 (merge_conditions (graph_of model.now) first second))
+        ≡ None }
     requires gone { gone ≡ capped (bytes_gone (graph_of model.now) first) }
-    ensures { result ≡ capped (length (canonical (graph_of model.now)) - bytes_gone (graph_of model.now) first) }
+    ensures { result
+        ≡ capped (length (canonical (graph_of model.now)) - bytes_gone (graph_of model.now) first) }
 {
     match bytes {
         Some(bytes) => bytes - gone,
@@ -94,7 +101,8 @@ pub(crate) fn merged_length(
     grows: Growth,
 ) -> u64
     requires measured { TextLengthIsRight (graph_of model.now) bytes }
-    requires holds { first_failed (take 7 (merge_conditions (graph_of model.now) first second)) ≡ None }
+    requires holds { first_failed (take 7 (merge_conditions (graph_of model.now) first second))
+        ≡ None }
     requires grows { grows ≡ growth (graph_of model.now) first }
     ensures { result ≡ capped (length (canonical (merged (graph_of model.now) first second))) }
 {
@@ -119,9 +127,11 @@ pub(crate) fn has_short_text(
     grows: Growth,
 ) -> bool
     requires measured { TextLengthIsRight (graph_of model.now) bytes }
-    requires holds { first_failed (take 7 (merge_conditions (graph_of model.now) first second)) ≡ None }
+    requires holds { first_failed (take 7 (merge_conditions (graph_of model.now) first second))
+        ≡ None }
     requires grows { grows ≡ growth (graph_of model.now) first }
-    ensures { result ≡ nat_le (length (canonical (merged (graph_of model.now) first second))) TEXT_MAX }
+    ensures { result
+        ≡ nat_le (length (canonical (merged (graph_of model.now) first second))) TEXT_MAX }
 {
     merged_length(model, bytes, first, second, grows) <= TEXT_MAX as u64
 }
@@ -134,7 +144,8 @@ pub(crate) fn is_within_limits(
     second: usize,
 ) -> bool
     requires known { FactsAreRight (graph_of model.now) known.old }
-    requires holds { first_failed (take 7 (merge_conditions (graph_of model.now) first second)) ≡ None }
+    requires holds { first_failed (take 7 (merge_conditions (graph_of model.now) first second))
+        ≡ None }
     ensures is { result ≡ is_within_limits (merged (graph_of model.now) first second) first }
     ensures known { FactsAreRight (graph_of model.now) known.new }
 {

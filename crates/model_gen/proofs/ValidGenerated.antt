@@ -11,7 +11,7 @@ use Rattle.model_core.specs.EventGraph.{EventGraph, EventVertex, Variable}
 use Rattle.model_core.specs.Text.Lexing.{same_bytes}
 use Rattle.model_core.specs.Text.Canonical.{canonical, variable_line, vertex_lines, version_line, watch_line, variable_name}
 use Rattle.model_core.specs.Text.VersionNeeded.{needs_version_two}
-use Rattle.model_core.specs.Text.Spellable.{HasOne, SpellableVariable, SpellableVertex, IsSpellable, extent}
+use Rattle.model_core.specs.Text.Spellable.{IsNonEmpty, SpellableVariable, SpellableVertex, IsSpellable, extent}
 use Rattle.model_core.specs.Static.OwnRules.{KeepsVariable, KeepsVertex, KeepsParts, KeepsStaticRules, parameters_of}
 use Rattle.model_core.proofs.EachOne.{every-map, every-append}
 use Rattle.model_gen.specs.Generated.{counter, gap, picked_below, generated_vertex, generated}
@@ -133,7 +133,7 @@ module _ (vertices : ℕ) (some : 1 ≤ vertices) (few : vertices ≤ 500) (made
   pub rules_kept : KeepsStaticRules g
   rules_kept = record { parts = made_parts_kept; few_cells = omega arith; short = short_text }
 
-  has_one_made : (n : ℕ) → 1 ≤ n → HasOne (map made (range_with_len 0 n))
+  has_one_made : (n : ℕ) → 1 ≤ n → IsNonEmpty (map made (range_with_len 0 n))
   has_one_made zero none = absurd (omega arith)
   has_one_made (suc n) more = tt
 

@@ -43,7 +43,8 @@ fn gap(alloc: Global) -> Result<Var, NoMemory>
 
 /// The variables.
 pub(crate) fn variables(alloc: Global) -> Result<List<Var>, NoMemory>
-    ensures { IfOk result (λ vars. map variable_of vars ≡ map counter (range_with_len 0 8) ++ gap ∷ []) }
+    ensures { IfOk result
+        (λ vars. map variable_of vars ≡ map counter (range_with_len 0 8) ++ gap ∷ []) }
 {
     let mut vars = Vec::with_capacity(alloc, 9)?;
     for number in 0..8 {
@@ -55,7 +56,8 @@ pub(crate) fn variables(alloc: Global) -> Result<List<Var>, NoMemory>
 
 /// The watch list: the first two counters.
 pub(crate) fn watched_counters(alloc: Global) -> Result<List<Watch>, NoMemory>
-    ensures { IfOk result (λ watch. map watched_of watch ≡ WatchedVariable 0 ∷ WatchedVariable 1 ∷ []) }
+    ensures { IfOk result
+        (λ watch. map watched_of watch ≡ WatchedVariable 0 ∷ WatchedVariable 1 ∷ []) }
 {
     let mut watch = List::of_one(alloc, Watch::Variable { var: 0 })?;
     watch.push(Watch::Variable { var: 1 })?;

@@ -53,7 +53,8 @@ fn edge_onward(alloc: Global, place: usize, vertices: usize) -> Edge
 
 /// A counter compared with a number.
 fn counter_test(alloc: Global, op: Op, counter: usize, number: i64) -> Result<Expr, NoMemory>
-    ensures { IfOk result (λ test. expression_of test ≡ Binary (operator_of op) (Scalar counter) (Number number)) }
+    ensures { IfOk result
+        (λ test. expression_of test ≡ Binary (operator_of op) (Scalar counter) (Number number)) }
 {
     Expr::binary(alloc, op, Expr::Scalar(counter), Expr::Int(number))
 }
@@ -107,7 +108,8 @@ pub(crate) fn edges_by_form(
     target: usize,
 ) -> Result<List<Edge>, NoMemory>
     requires { place < vertices }
-    ensures { IfOk result (λ edges. map edge_of edges ≡ generated_edges vertices place form target) }
+    ensures { IfOk result
+        (λ edges. map edge_of edges ≡ generated_edges vertices place form target) }
 {
     if form == 0 {
         let edge = timed_edge(alloc, target, Expr::Scalar(GAP), Expr::Truth(true));

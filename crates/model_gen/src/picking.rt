@@ -32,9 +32,12 @@ pub(crate) fn next_picks(streams: &mut Streams, vertices: usize) -> Picks
     requires few { vertices ≤ 2 ^ 32 }
     requires there { 54 < length streams.old.taken }
     requires countable { slice_index_or streams.old.taken 54 0 < 2 ^ 61 }
-    ensures counter { result.counter ≡ picked_below streams.old.seed (slice_index_or streams.old.taken 54 0) 8 }
-    ensures form { result.form ≡ picked_below streams.old.seed (slice_index_or streams.old.taken 54 0 + 1) 4 }
-    ensures target { result.target ≡ picked_below streams.old.seed (slice_index_or streams.old.taken 54 0 + 2) vertices }
+    ensures counter { result.counter
+        ≡ picked_below streams.old.seed (slice_index_or streams.old.taken 54 0) 8 }
+    ensures form { result.form
+        ≡ picked_below streams.old.seed (slice_index_or streams.old.taken 54 0 + 1) 4 }
+    ensures target { result.target
+        ≡ picked_below streams.old.seed (slice_index_or streams.old.taken 54 0 + 2) vertices }
     ensures moved { streams.new ≡ after_words streams.old 54 3 }
 {
     let counter = pick_below(streams, 8);

@@ -8,7 +8,8 @@ use round_trip::validity_is_by_parts;
 
 /// The model that a number makes is valid.
 pub fn generated_models_are_valid()
-    ensures { (seed vertices : ℕ) → 1 ≤ vertices → vertices ≤ 500 → IsValid (generated seed vertices) }
+    ensures { (seed vertices : ℕ) → 1 ≤ vertices → vertices ≤ 500
+        → IsValid (generated seed vertices) }
 {
     validity_is_by_parts();
 }

@@ -23,7 +23,9 @@ fn scalar_target(var: usize) -> Target
 
 /// The counter at a place goes up by one.
 fn counting(alloc: Global, counter: usize) -> Result<Change, NoMemory>
-    ensures { IfOk result (λ change. change_of change ≡ Set (scalar_location counter ∷ []) (Binary Add (Scalar counter) (Number (pos 1)) ∷ [])) }
+    ensures { IfOk result
+        (λ change. change_of change
+        ≡ Set (scalar_location counter ∷ []) (Binary Add (Scalar counter) (Number (pos 1)) ∷ [])) }
 {
     let more = Expr::binary(alloc, Op::Add, Expr::Scalar(counter), Expr::Int(1))?;
     let values = List::of_one(alloc, more)?;
@@ -58,7 +60,9 @@ fn vertex_changes(alloc: Global, counter: usize, draws: bool) -> Result<List<Cha
 /// The vertex at a place of so many, as these picks make it.
 fn vertex_by(alloc: Global, place: usize, vertices: usize, picks: Picks) -> Result<Vertex, NoMemory>
     requires { place < vertices }
-    ensures { IfOk result (λ vertex. vertex_of vertex ≡ vertex_by vertices place picks.counter picks.form picks.target) }
+    ensures { IfOk result
+        (λ vertex. vertex_of vertex
+        ≡ vertex_by vertices place picks.counter picks.form picks.target) }
 {
     let name = numbered_name(alloc, b"E", place)?;
     let changes = vertex_changes(alloc, picks.counter, picks.form == 0 || picks.form == 3)?;
@@ -77,7 +81,9 @@ pub(crate) fn vertices_by_words(
     vertices: usize,
 ) -> Result<List<Vertex>, NoMemory>
     requires few { vertices ≤ 2 ^ 32 }
-    ensures { IfOk result (λ made. map vertex_of made ≡ map (generated_vertex seed vertices) (range_with_len 0 vertices)) }
+    ensures { IfOk result
+        (λ made. map vertex_of made
+        ≡ map (generated_vertex seed vertices) (range_with_len 0 vertices)) }
 {
     let mut streams = Streams::begin(seed);
     let mut made = Vec::with_capacity(alloc, vertices)?;

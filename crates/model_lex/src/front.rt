@@ -20,8 +20,11 @@ use sig_base::NoMemory;
 pub(crate) fn pass_over(list: &mut Vec<Piece>, text: &[u8], at: usize) -> Result<usize, LexError>
     requires inside { at < length text.now }
     requires few { length text.now < 2 ^ 32 }
-    ensures passes { IfOk result (λ to. Passes at (front_at (drop at text.now)) (map (piece_of text.now) list.old.items) (map (piece_of text.now) list.new.items) to) }
-    ensures bad_byte { (place : ℕ) → result ≡ Err (LexError.BadByte place) → (place ≡ at) × (front_at (drop at text.now) ≡ Neither) }
+    ensures passes { IfOk result
+        (λ to. Passes at (front_at (drop at text.now)) (map (piece_of text.now) list.old.items)
+        (map (piece_of text.now) list.new.items) to) }
+    ensures bad_byte { (place : ℕ) → result ≡ Err (LexError.BadByte place)
+        → (place ≡ at) × (front_at (drop at text.now) ≡ Neither) }
 {
     let bytes = &text[at..];
     let left = bytes.len();
@@ -78,7 +81,10 @@ fn add(
 ) -> Result<usize, LexError>
     requires left { 0 < left }
     requires inside { at + length < 2 ^ 32 }
-    ensures added { IfOk result (λ to. (to ≡ at + length) × (list.new.items ≡ list.old.items ++ record { from = at; length = length; kind = kind } ∷ [])) }
+    ensures added { IfOk result
+        (λ to. (to ≡ at + length)
+        × (list.new.items
+        ≡ list.old.items ++ record { from = at; length = length; kind = kind } ∷ [])) }
     ensures no_memory { (place : ℕ) → result ≢ Err (LexError.BadByte place) }
 {
     if list.len() == list.capacity() {

@@ -22,7 +22,8 @@ use std::alloc::Global;
 /// begins no token, with the place of the first such byte. For a text of 4 GiB or more, whose tokens can take over 160 GiB,
 /// `NoMemory` comes at once.
 pub fn tokens<'t>(alloc: Global, text: &'t [u8]) -> Result<Tokens<'t>, LexError>
-    ensures ok { IfOk result (λ t. (t.text.now ≡ text.now) × (tokens_of text.now ≡ Ok (lexemes t))) }
+    ensures ok { IfOk result
+        (λ t. (t.text.now ≡ text.now) × (tokens_of text.now ≡ Ok (lexemes t))) }
     ensures bad_byte { (at : ℕ) → result ≡ Err (LexError.BadByte at) → tokens_of text.now ≡ Err at }
 {
     let pieces = pieces(alloc, text)?;
@@ -32,7 +33,8 @@ pub fn tokens<'t>(alloc: Global, text: &'t [u8]) -> Result<Tokens<'t>, LexError>
 
 /// The pieces of a text as tokens.
 fn tokens_of_pieces(alloc: Global, pieces: &Pieces<'_>) -> Result<List<Token>, NoMemory>
-    ensures { IfOk result (λ list. map (lexeme_of pieces.now.text.now) list ≡ pieces_lexemes pieces.now) }
+    ensures { IfOk result
+        (λ list. map (lexeme_of pieces.now.text.now) list ≡ pieces_lexemes pieces.now) }
 {
     pieces_are_in_text();
     let mut list = List::from_vec(Vec::with_capacity(alloc, pieces.list.len())?);
@@ -47,7 +49,8 @@ const BYTES_MAX: usize = 4_294_967_295;
 
 /// The same in 12 bytes a token, with the same errors.
 pub fn pieces<'t>(alloc: Global, text: &'t [u8]) -> Result<Pieces<'t>, LexError>
-    ensures ok { IfOk result (λ t. (t.text.now ≡ text.now) × (tokens_of text.now ≡ Ok (pieces_lexemes t))) }
+    ensures ok { IfOk result
+        (λ t. (t.text.now ≡ text.now) × (tokens_of text.now ≡ Ok (pieces_lexemes t))) }
     ensures bad_byte { (at : ℕ) → result ≡ Err (LexError.BadByte at) → tokens_of text.now ≡ Err at }
 {
     if text.len() > BYTES_MAX {

@@ -17,14 +17,17 @@ pub fn texts_are_cut()
 
 /// The law that the tokens follow one another in their text, each of at least a byte.
 pub fn tokens_are_in_order()
-    ensures in_order { (text : List ℕ) (ls : List Lexeme) → tokens_of text ≡ Ok ls → TokensInOrder 0 ls (length text) }
+    ensures in_order { (text : List ℕ) (ls : List Lexeme) → tokens_of text ≡ Ok ls
+        → TokensInOrder 0 ls (length text) }
     // So a reader may take the bytes of any token out of the text.
-    ensures in_text { (t : Tokens) → All (λ k. (k.from < k.to) × (k.to ≤ length t.text.now)) t.list }
+    ensures in_text { (t : Tokens)
+        → All (λ k. (k.from < k.to) × (k.to ≤ length t.text.now)) t.list }
 {}
 
 /// The law that each piece of a text has at least a byte, and ends where the text ends, or before.
 pub fn pieces_are_in_text()
-    ensures { (t : Pieces) → All (λ p. (0 < p.length) × (p.from + p.length ≤ length t.text.now)) t.list }
+    ensures { (t : Pieces)
+        → All (λ p. (0 < p.length) × (p.from + p.length ≤ length t.text.now)) t.list }
 {}
 
 /// The law that the pieces beside tokens are these tokens, in the same text.

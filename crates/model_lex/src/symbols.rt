@@ -8,7 +8,8 @@ use model_core::Symbol;
 
 /// The symbol that these two bytes are, if any.
 pub(crate) fn symbol_of_two(first: u8, second: u8) -> Option<Symbol>
-    ensures { symbol_front 2 result Neither ≡ symbol_among (symbols_of_length 2) (first ∷ second ∷ []) }
+    ensures { symbol_front 2 result Neither
+        ≡ symbol_among (symbols_of_length 2) (first ∷ second ∷ []) }
 {
     match (first, second) {
         (b':', b'=') => Some(Symbol::Becomes),

@@ -95,7 +95,8 @@ fn kind_with(letter: u8, word: &[u8]) -> PieceKind
 /// The kind of a word, where these are the reserved words.
 #[inline(always)]
 fn kind_among(words: &[(&[u8], Word)], word: &[u8]) -> PieceKind
-    ensures { piece_kind word.now result ≡ word_among (map (λ w. (w.0.now, w.1)) words.now) word.now }
+    ensures { piece_kind word.now result
+        ≡ word_among (map (λ w. (w.0.now, w.1)) words.now) word.now }
 {
     for (spelling, reserved) in words {
         if is_spelled(word, spelling) {

@@ -35,7 +35,9 @@ fn put_clip<P: Pen>(out: &mut P, clip: bool)
 
 /// Puts the range of a variable.
 fn put_range<P: Pen>(out: &mut P, var: &Var)
-    ensures { P.adds out.old out.new (signed_decimal var.now.lo ++ codes ".." ++ signed_decimal var.now.hi ++ clip_text var.now.clip) }
+    ensures { P.adds out.old out.new
+        (signed_decimal var.now.lo ++ codes ".." ++ signed_decimal var.now.hi
+        ++ clip_text var.now.clip) }
 {
     put_signed(out, var.lo);
     out.put_bytes(b"..");
@@ -139,7 +141,8 @@ fn put_watched<P: Pen>(out: &mut P, model: &Model, watch: Watch)
 
 /// Puts the names of what is watched, with a comma and a space between two.
 fn put_watched_names<P: Pen>(out: &mut P, model: &Model, watch: &[Watch])
-    ensures { P.adds out.old out.new (joined (map (watched_name (graph_of model.now)) (map watched_of watch.now))) }
+    ensures { P.adds out.old out.new
+        (joined (map (watched_name (graph_of model.now)) (map watched_of watch.now))) }
 {
     let [first, rest @ ..] = watch else {
         return;
@@ -153,7 +156,8 @@ fn put_watched_names<P: Pen>(out: &mut P, model: &Model, watch: &[Watch])
 
 /// Puts the line of the watch list, or nothing where it is empty.
 pub(crate) fn put_watch<P: Pen>(out: &mut P, model: &Model, watch: &[Watch])
-    ensures { P.adds out.old out.new (watch_names_line (map (watched_name (graph_of model.now)) (map watched_of watch.now))) }
+    ensures { P.adds out.old out.new
+        (watch_names_line (map (watched_name (graph_of model.now)) (map watched_of watch.now))) }
 {
     if watch.is_empty() {
         return;

@@ -47,7 +47,9 @@ fn level(expr: &Expr) -> u8
 /// Puts an operand, in parentheses where it binds less tightly than is asked for.
 #[cycle(printing)]
 fn put_operand<P: Pen>(out: &mut P, model: &Model, asked: u8, expr: &Expr)
-    ensures { P.adds out.old out.new (operand asked (expression_of expr.now) (expression_text (graph_of model.now) (expression_of expr.now))) }
+    ensures { P.adds out.old out.new
+        (operand asked (expression_of expr.now)
+        (expression_text (graph_of model.now) (expression_of expr.now))) }
 {
     // Most operands are variables: such a name is put without a call.
     if let Expr::Scalar(var) = expr
@@ -67,7 +69,9 @@ fn put_operand<P: Pen>(out: &mut P, model: &Model, asked: u8, expr: &Expr)
 /// Puts an operand after a sign or a word.
 #[cycle(printing)]
 fn put_after_sign<P: Pen>(out: &mut P, model: &Model, sign: &[u8], asked: u8, expr: &Expr)
-    ensures { P.adds out.old out.new (sign.now ++ operand asked (expression_of expr.now) (expression_text (graph_of model.now) (expression_of expr.now))) }
+    ensures { P.adds out.old out.new
+        (sign.now ++ operand asked (expression_of expr.now)
+        (expression_text (graph_of model.now) (expression_of expr.now))) }
 {
     out.put_bytes(sign);
     put_operand(out, model, asked, expr);
@@ -76,7 +80,8 @@ fn put_after_sign<P: Pen>(out: &mut P, model: &Model, sign: &[u8], asked: u8, ex
 /// Puts an expression.
 #[cycle(printing)]
 pub(crate) fn put_expression<P: Pen>(out: &mut P, model: &Model, expr: &Expr)
-    ensures { P.adds out.old out.new (expression_text (graph_of model.now) (expression_of expr.now)) }
+    ensures { P.adds out.old out.new
+        (expression_text (graph_of model.now) (expression_of expr.now)) }
 {
     match expr {
         Expr::Int(number) => put_signed(out, *number),
@@ -117,7 +122,8 @@ pub(crate) fn put_expression<P: Pen>(out: &mut P, model: &Model, expr: &Expr)
 
 /// Puts expressions, with a comma and a space between two.
 pub(crate) fn put_expressions<P: Pen>(out: &mut P, model: &Model, exprs: &[Expr])
-    ensures { P.adds out.old out.new (joined (expression_texts (graph_of model.now) (map expression_of exprs.now))) }
+    ensures { P.adds out.old out.new
+        (joined (expression_texts (graph_of model.now) (map expression_of exprs.now))) }
 {
     let [first, rest @ ..] = exprs else {
         return;
@@ -131,7 +137,8 @@ pub(crate) fn put_expressions<P: Pen>(out: &mut P, model: &Model, exprs: &[Expr]
 
 /// Puts the values that an edge carries in parentheses, or nothing where it carries none.
 pub(crate) fn put_carried_values<P: Pen>(out: &mut P, model: &Model, values: &[Expr])
-    ensures { P.adds out.old out.new (in_parentheses (expression_texts (graph_of model.now) (map expression_of values.now))) }
+    ensures { P.adds out.old out.new
+        (in_parentheses (expression_texts (graph_of model.now) (map expression_of values.now))) }
 {
     if values.is_empty() {
         return;

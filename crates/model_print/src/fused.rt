@@ -23,7 +23,9 @@ pub fn standing_for(keep: usize, gone: usize, vertex: usize) -> usize
 
 /// Puts the lines of edges, of which those that lead to `gone` lead to `keep`.
 fn put_edges_for<P: Pen>(out: &mut P, model: &Model, keep: usize, gone: usize, edges: &[Edge])
-    ensures { P.adds out.old out.new (flat_map (edge_line (graph_of model.now)) (map (edge_renumbered (standing_for keep gone)) (map edge_of edges.now))) }
+    ensures { P.adds out.old out.new
+        (flat_map (edge_line (graph_of model.now))
+        (map (edge_renumbered (standing_for keep gone)) (map edge_of edges.now))) }
 {
     for edge in edges {
         put_edge_to(out, model, standing_for(keep, gone, edge.target), edge);
@@ -32,7 +34,9 @@ fn put_edges_for<P: Pen>(out: &mut P, model: &Model, keep: usize, gone: usize, e
 
 /// Puts the lines of a vertex, whose edges that lead to `gone` lead to `keep`.
 fn put_vertex_for<P: Pen>(out: &mut P, model: &Model, keep: usize, gone: usize, vertex: &Vertex)
-    ensures { P.adds out.old out.new (vertex_lines (graph_of model.now) (vertex_renumbered (standing_for keep gone) (vertex_of vertex.now))) }
+    ensures { P.adds out.old out.new
+        (vertex_lines (graph_of model.now)
+        (vertex_renumbered (standing_for keep gone) (vertex_of vertex.now))) }
 {
     out.put_bytes(b"vertex ");
     out.put_bytes(vertex.name.as_slice());
@@ -52,7 +56,10 @@ fn put_vertex_unless<P: Pen>(
     left_out: bool,
     vertex: &Vertex,
 )
-    ensures { P.adds out.old out.new (cond left_out [] (vertex_lines (graph_of model.now) (vertex_renumbered (standing_for keep gone) (vertex_of vertex.now)))) }
+    ensures { P.adds out.old out.new
+        (cond left_out []
+        (vertex_lines (graph_of model.now)
+        (vertex_renumbered (standing_for keep gone) (vertex_of vertex.now)))) }
 {
     if !left_out {
         put_vertex_for(out, model, keep, gone, vertex);
@@ -67,7 +74,10 @@ fn put_vertices_for<P: Pen>(
     gone: usize,
     vertices: &[Vertex],
 )
-    ensures { P.adds out.old out.new (flat_map (λ v. vertex_lines (graph_of model.now) (vertex_renumbered (standing_for keep gone) v)) (remove (map vertex_of vertices.now) gone)) }
+    ensures { P.adds out.old out.new
+        (flat_map (λ v.
+        vertex_lines (graph_of model.now) (vertex_renumbered (standing_for keep gone) v))
+        (remove (map vertex_of vertices.now) gone)) }
 {
     for (place, vertex) in vertices.iter().enumerate() {
         put_vertex_unless(out, model, keep, gone, place == gone, vertex);

@@ -27,7 +27,9 @@ pub fn printed_length(model: &Model) -> u64
 
 /// How many bytes the canonical text of an expression of the model has, or 2^64 - 1 where it has more.
 pub fn expr_length(expr: &Expr, model: &Model) -> u64
-    ensures { result ≡ min (length (expression_text (graph_of model.now) (expression_of expr.now))) (2 ^ 64 - 1) }
+    ensures { result
+        ≡ min (length (expression_text (graph_of model.now) (expression_of expr.now)))
+        (2 ^ 64 - 1) }
 {
     let mut count = Count { bytes: 0 };
     put_expression(&mut count, model, expr);
@@ -36,7 +38,8 @@ pub fn expr_length(expr: &Expr, model: &Model) -> u64
 
 /// How many bytes the line of a change of the model has, with its blanks and its line end, or 2^64 - 1 where it has more.
 pub fn change_length(change: &Change, model: &Model) -> u64
-    ensures { result ≡ min (length (change_line (graph_of model.now) (change_of change.now))) (2 ^ 64 - 1) }
+    ensures { result
+        ≡ min (length (change_line (graph_of model.now) (change_of change.now))) (2 ^ 64 - 1) }
 {
     let mut count = Count { bytes: 0 };
     put_change(&mut count, model, change);
@@ -45,7 +48,8 @@ pub fn change_length(change: &Change, model: &Model) -> u64
 
 /// How many bytes the line of an edge of the model has, with its blanks and its line end, or 2^64 - 1 where it has more.
 pub fn edge_length(edge: &Edge, model: &Model) -> u64
-    ensures { result ≡ min (length (edge_line (graph_of model.now) (edge_of edge.now))) (2 ^ 64 - 1) }
+    ensures { result
+        ≡ min (length (edge_line (graph_of model.now) (edge_of edge.now))) (2 ^ 64 - 1) }
 {
     let mut count = Count { bytes: 0 };
     put_edge(&mut count, model, edge);
@@ -54,7 +58,8 @@ pub fn edge_length(edge: &Edge, model: &Model) -> u64
 
 /// How many bytes the lines of a vertex of the model have, or 2^64 - 1 where they have more.
 pub fn vertex_length(vertex: &Vertex, model: &Model) -> u64
-    ensures { result ≡ min (length (vertex_lines (graph_of model.now) (vertex_of vertex.now))) (2 ^ 64 - 1) }
+    ensures { result
+        ≡ min (length (vertex_lines (graph_of model.now) (vertex_of vertex.now))) (2 ^ 64 - 1) }
 {
     let mut count = Count { bytes: 0 };
     put_vertex(&mut count, model, vertex);
@@ -64,7 +69,8 @@ pub fn vertex_length(vertex: &Vertex, model: &Model) -> u64
 /// How many bytes the canonical text of a model has without the edge at this place of the vertex at this place, or
 /// 2^64 - 1 where it has more.
 pub fn length_without_edge(model: &Model, vertex: usize, edge: usize) -> u64
-    ensures { result ≡ min (length (canonical (pruned (graph_of model.now) vertex edge))) (2 ^ 64 - 1) }
+    ensures { result
+        ≡ min (length (canonical (pruned (graph_of model.now) vertex edge))) (2 ^ 64 - 1) }
 {
     let mut count = Count { bytes: 0 };
     put_model_without(&mut count, model, vertex, edge);
@@ -74,7 +80,10 @@ pub fn length_without_edge(model: &Model, vertex: usize, edge: usize) -> u64
 /// How many bytes the line has by which parameters of the model take these values, with its blanks and its line end: none
 /// where there are no parameters. 2^64 - 1 where it has more.
 pub fn set_length(params: &[usize], values: &[Expr], model: &Model) -> u64
-    ensures { result ≡ min (length (flat_map (change_line (graph_of model.now)) (set_parameters params.now (map expression_of values.now)))) (2 ^ 64 - 1) }
+    ensures { result
+        ≡ min (length
+        (flat_map (change_line (graph_of model.now))
+        (set_parameters params.now (map expression_of values.now)))) (2 ^ 64 - 1) }
 {
     let mut count = Count { bytes: 0 };
     put_set(&mut count, model, params, values);
@@ -83,7 +92,10 @@ pub fn set_length(params: &[usize], values: &[Expr], model: &Model) -> u64
 
 /// How many bytes the lines of the changes and edges of a vertex of the model have, or 2^64 - 1 where they have more.
 pub fn body_length(vertex: &Vertex, model: &Model) -> u64
-    ensures { result ≡ min (length (flat_map (change_line (graph_of model.now)) (map change_of vertex.now.changes) ++ flat_map (edge_line (graph_of model.now)) (map edge_of vertex.now.edges))) (2 ^ 64 - 1) }
+    ensures { result
+        ≡ min (length
+        (flat_map (change_line (graph_of model.now)) (map change_of vertex.now.changes)
+        ++ flat_map (edge_line (graph_of model.now)) (map edge_of vertex.now.edges))) (2 ^ 64 - 1) }
 {
     let mut count = Count { bytes: 0 };
     put_body(&mut count, model, vertex);
@@ -95,7 +107,8 @@ pub fn body_length(vertex: &Vertex, model: &Model) -> u64
 pub fn fused_length(model: &Model, keep: usize, gone: usize) -> u64
     requires first { keep < gone }
     requires unwatched { is_watched_vertex (graph_of model.now) gone ≡ false }
-    ensures { result ≡ min (length (canonical (fused (graph_of model.now) keep gone))) (2 ^ 64 - 1) }
+    ensures { result
+        ≡ min (length (canonical (fused (graph_of model.now) keep gone))) (2 ^ 64 - 1) }
 {
     let mut count = Count { bytes: 0 };
     put_model_fused(&mut count, model, keep, gone);

@@ -21,7 +21,10 @@ fn put_version_line<P: Pen>(out: &mut P, needed: bool)
 
 /// Puts the declarations, and before them the line of the version where that is needed.
 pub(crate) fn put_declarations<P: Pen>(out: &mut P, model: &Model, version_two: bool)
-    ensures { P.adds out.old out.new (version_line version_two ++ codes "model " ++ model.now.name ++ codes ";\n" ++ flat_map variable_line (map variable_of model.now.vars) ++ flat_map table_line (map table_of model.now.tables) ++ watch_line (graph_of model.now)) }
+    ensures { P.adds out.old out.new
+        (version_line version_two ++ codes "model " ++ model.now.name ++ codes ";\n"
+        ++ flat_map variable_line (map variable_of model.now.vars)
+        ++ flat_map table_line (map table_of model.now.tables) ++ watch_line (graph_of model.now)) }
 {
     put_version_line(out, version_two);
     out.put_bytes(b"model ");

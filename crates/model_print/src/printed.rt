@@ -62,7 +62,9 @@ pub fn put_expr(
     expr: &Expr,
     model: &Model,
 ) -> Result<(), NoMemory>
-    ensures { OnOk result (out.new.items ≡ out.old.items ++ expression_text (graph_of model.now) (expression_of expr.now)) }
+    ensures { OnOk result
+        (out.new.items
+        ≡ out.old.items ++ expression_text (graph_of model.now) (expression_of expr.now)) }
 {
     let mut text = Growing {
         bytes: replace(out, Vec::new(alloc)),

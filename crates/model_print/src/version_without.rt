@@ -27,7 +27,9 @@ fn another_has_later_parts(vertices: &[Vertex], gone: usize) -> bool
 
 /// Whether the model needs a text of version 2 when the vertex at `gone` is left out.
 pub(crate) fn needs_version_two_without(model: &Model, gone: usize) -> bool
-    ensures { result ≡ (list_any is_large_array (map variable_of model.now.vars) || list_any has_later_parts (remove (map vertex_of model.now.vertices) gone)) }
+    ensures { result
+        ≡ (list_any is_large_array (map variable_of model.now.vars)
+        || list_any has_later_parts (remove (map vertex_of model.now.vertices) gone)) }
 {
     has_large_array(model.vars.as_slice())
         || another_has_later_parts(model.vertices.as_slice(), gone)
@@ -55,7 +57,9 @@ fn has_later_parts_without(vertex: &Vertex, edge: usize) -> bool
 
 /// Whether the vertex at this place has, where there is one.
 fn shortened_has_later_parts(vertices: &[Vertex], lacking: usize, edge: usize) -> bool
-    ensures { result ≡ option_map_or (λ v. has_later_parts (without_edge edge v)) (slice_get (map vertex_of vertices.now) lacking) false }
+    ensures { result
+        ≡ option_map_or (λ v. has_later_parts (without_edge edge v))
+        (slice_get (map vertex_of vertices.now) lacking) false }
 {
     match vertices.get(lacking) {
         Some(vertex) => has_later_parts_without(vertex, edge),

@@ -16,7 +16,8 @@ const PLAIN_PRIORITY: u8 = 5;
 
 /// Puts an index in brackets, or nothing where there is none.
 fn put_index<P: Pen>(out: &mut P, model: &Model, index: &Option<Expr>)
-    ensures { P.adds out.old out.new (index_text (graph_of model.now) (option_map expression_of index.now)) }
+    ensures { P.adds out.old out.new
+        (index_text (graph_of model.now) (option_map expression_of index.now)) }
 {
     let Some(index) = index else {
         return;
@@ -36,7 +37,8 @@ fn put_target<P: Pen>(out: &mut P, model: &Model, target: &Target)
 
 /// Puts targets, with a comma and a space between two.
 fn put_targets<P: Pen>(out: &mut P, model: &Model, targets: &[Target])
-    ensures { P.adds out.old out.new (joined (map (location_text (graph_of model.now)) (map location_of targets.now))) }
+    ensures { P.adds out.old out.new
+        (joined (map (location_text (graph_of model.now)) (map location_of targets.now))) }
 {
     let [first, rest @ ..] = targets else {
         return;
@@ -132,7 +134,8 @@ fn put_priority<P: Pen>(out: &mut P, priority: u8)
 
 /// Puts a condition, or nothing where it is the word `true`.
 fn put_condition<P: Pen>(out: &mut P, model: &Model, condition: &Expr)
-    ensures { P.adds out.old out.new (condition_text (graph_of model.now) (expression_of condition.now)) }
+    ensures { P.adds out.old out.new
+        (condition_text (graph_of model.now) (expression_of condition.now)) }
 {
     if let Expr::Truth(true) = condition {
         return;
@@ -168,7 +171,8 @@ fn put_timing<P: Pen>(out: &mut P, model: &Model, form: &EdgeForm)
 
 /// Puts the line of an edge that leads to this vertex in place of its own target.
 pub(crate) fn put_edge_to<P: Pen>(out: &mut P, model: &Model, target: usize, edge: &Edge)
-    ensures { P.adds out.old out.new (edge_line (graph_of model.now) (record (edge_of edge.now) { target = target })) }
+    ensures { P.adds out.old out.new
+        (edge_line (graph_of model.now) (record (edge_of edge.now) { target = target })) }
 {
     put_edge_word(out, &edge.form);
     put_vertex_name(out, model, target);
@@ -201,7 +205,8 @@ fn put_variable_names<P: Pen>(out: &mut P, model: &Model, vars: &[usize])
 
 /// Puts the parameters of a vertex in parentheses, or nothing where it has none.
 pub(crate) fn put_parameters<P: Pen>(out: &mut P, model: &Model, params: &[usize])
-    ensures { P.adds out.old out.new (in_parentheses (map (variable_name (graph_of model.now)) params.now)) }
+    ensures { P.adds out.old out.new
+        (in_parentheses (map (variable_name (graph_of model.now)) params.now)) }
 {
     if params.is_empty() {
         return;
@@ -213,7 +218,8 @@ pub(crate) fn put_parameters<P: Pen>(out: &mut P, model: &Model, params: &[usize
 
 /// Puts the lines of changes.
 pub(crate) fn put_changes<P: Pen>(out: &mut P, model: &Model, changes: &[Change])
-    ensures { P.adds out.old out.new (flat_map (change_line (graph_of model.now)) (map change_of changes.now)) }
+    ensures { P.adds out.old out.new
+        (flat_map (change_line (graph_of model.now)) (map change_of changes.now)) }
 {
     for change in changes {
         put_change(out, model, change);
@@ -222,7 +228,8 @@ pub(crate) fn put_changes<P: Pen>(out: &mut P, model: &Model, changes: &[Change]
 
 /// Puts the lines of edges.
 fn put_edges<P: Pen>(out: &mut P, model: &Model, edges: &[Edge])
-    ensures { P.adds out.old out.new (flat_map (edge_line (graph_of model.now)) (map edge_of edges.now)) }
+    ensures { P.adds out.old out.new
+        (flat_map (edge_line (graph_of model.now)) (map edge_of edges.now)) }
 {
     for edge in edges {
         put_edge(out, model, edge);
@@ -231,7 +238,9 @@ fn put_edges<P: Pen>(out: &mut P, model: &Model, edges: &[Edge])
 
 /// Puts the line by which variables take values, or nothing where there are no variables.
 pub(crate) fn put_set<P: Pen>(out: &mut P, model: &Model, vars: &[usize], values: &[Expr])
-    ensures { P.adds out.old out.new (flat_map (change_line (graph_of model.now)) (set_parameters vars.now (map expression_of values.now))) }
+    ensures { P.adds out.old out.new
+        (flat_map (change_line (graph_of model.now))
+        (set_parameters vars.now (map expression_of values.now))) }
 {
     if vars.is_empty() {
         return;
@@ -245,7 +254,9 @@ pub(crate) fn put_set<P: Pen>(out: &mut P, model: &Model, vars: &[usize], values
 
 /// Puts the lines of a vertex's changes and edges.
 pub(crate) fn put_body<P: Pen>(out: &mut P, model: &Model, vertex: &Vertex)
-    ensures { P.adds out.old out.new (flat_map (change_line (graph_of model.now)) (map change_of vertex.now.changes) ++ flat_map (edge_line (graph_of model.now)) (map edge_of vertex.now.edges)) }
+    ensures { P.adds out.old out.new
+        (flat_map (change_line (graph_of model.now)) (map change_of vertex.now.changes)
+        ++ flat_map (edge_line (graph_of model.now)) (map edge_of vertex.now.edges)) }
 {
     put_changes(out, model, vertex.changes.as_slice());
     put_edges(out, model, vertex.edges.as_slice());
@@ -266,7 +277,8 @@ pub(crate) fn put_vertex<P: Pen>(out: &mut P, model: &Model, vertex: &Vertex)
 
 /// Puts the lines of vertices.
 pub(crate) fn put_vertices<P: Pen>(out: &mut P, model: &Model, vertices: &[Vertex])
-    ensures { P.adds out.old out.new (flat_map (vertex_lines (graph_of model.now)) (map vertex_of vertices.now)) }
+    ensures { P.adds out.old out.new
+        (flat_map (vertex_lines (graph_of model.now)) (map vertex_of vertices.now)) }
 {
     for vertex in vertices {
         put_vertex(out, model, vertex);

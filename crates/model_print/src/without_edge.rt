@@ -15,7 +15,8 @@ use model_core::{Edge, Model, Vertex};
 
 /// Puts the line of an edge, or nothing where it is left out.
 fn put_edge_unless<P: Pen>(out: &mut P, model: &Model, left_out: bool, edge: &Edge)
-    ensures { P.adds out.old out.new (cond left_out [] (edge_line (graph_of model.now) (edge_of edge.now))) }
+    ensures { P.adds out.old out.new
+        (cond left_out [] (edge_line (graph_of model.now) (edge_of edge.now))) }
 {
     if !left_out {
         put_edge(out, model, edge);
@@ -24,7 +25,8 @@ fn put_edge_unless<P: Pen>(out: &mut P, model: &Model, left_out: bool, edge: &Ed
 
 /// Puts the lines of edges but of the one at this place.
 fn put_edges_but<P: Pen>(out: &mut P, model: &Model, edges: &[Edge], left_out: usize)
-    ensures { P.adds out.old out.new (flat_map (edge_line (graph_of model.now)) (remove (map edge_of edges.now) left_out)) }
+    ensures { P.adds out.old out.new
+        (flat_map (edge_line (graph_of model.now)) (remove (map edge_of edges.now) left_out)) }
 {
     for (place, edge) in edges.iter().enumerate() {
         put_edge_unless(out, model, place == left_out, edge);
@@ -33,7 +35,8 @@ fn put_edges_but<P: Pen>(out: &mut P, model: &Model, edges: &[Edge], left_out: u
 
 /// Puts the lines of a vertex without its edge at this place.
 fn put_vertex_without<P: Pen>(out: &mut P, model: &Model, vertex: &Vertex, edge: usize)
-    ensures { P.adds out.old out.new (vertex_lines (graph_of model.now) (without_edge edge (vertex_of vertex.now))) }
+    ensures { P.adds out.old out.new
+        (vertex_lines (graph_of model.now) (without_edge edge (vertex_of vertex.now))) }
 {
     out.put_bytes(b"vertex ");
     out.put_bytes(vertex.name.as_slice());
@@ -46,7 +49,9 @@ fn put_vertex_without<P: Pen>(out: &mut P, model: &Model, vertex: &Vertex, edge:
 
 /// Puts the lines of a vertex, or where it is the one that lacks an edge those without the edge at this place.
 fn put_either<P: Pen>(out: &mut P, model: &Model, lacks: bool, vertex: &Vertex, edge: usize)
-    ensures { P.adds out.old out.new (vertex_lines (graph_of model.now) (cond lacks (without_edge edge (vertex_of vertex.now)) (vertex_of vertex.now))) }
+    ensures { P.adds out.old out.new
+        (vertex_lines (graph_of model.now)
+        (cond lacks (without_edge edge (vertex_of vertex.now)) (vertex_of vertex.now))) }
 {
     if lacks {
         put_vertex_without(out, model, vertex, edge);
@@ -63,7 +68,9 @@ fn put_vertices_without<P: Pen>(
     lacking: usize,
     edge: usize,
 )
-    ensures { P.adds out.old out.new (flat_map (vertex_lines (graph_of model.now)) (with_place (without_edge edge) lacking (map vertex_of vertices.now))) }
+    ensures { P.adds out.old out.new
+        (flat_map (vertex_lines (graph_of model.now))
+        (with_place (without_edge edge) lacking (map vertex_of vertices.now))) }
 {
     for (place, vertex) in vertices.iter().enumerate() {
         put_either(out, model, place == lacking, vertex, edge);

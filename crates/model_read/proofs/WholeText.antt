@@ -90,7 +90,7 @@ front-unexpected text tokens rest at (e, told) = record {
   none = no_front tokens rest e;
   rest = front_to_end rest;
   wrong = wrong-in_front tokens rest (no_front tokens rest e) (stuck-is_wrong text_format text-fine tokens rest e);
-  told = same_place text rest ∙ told;
+  at_rest = same_place text rest ∙ told;
 }
 
 -- ---- what is counted of the front

@@ -159,9 +159,11 @@ impl<'t> Cursor<'t> {
     #[inline(always)]
     fn take_if(&mut self, kind: PieceKind) -> Option<usize>
         ensures reads { language_reader (maybe (of_kind kind)) self.old ≡ took result self.new }
-        ensures taken { IfSome result (λ at. language_reader (of_kind kind) self.old ≡ took at self.new) }
+        ensures taken { IfSome result
+            (λ at. language_reader (of_kind kind) self.old ≡ took at self.new) }
         ensures shorter { IfSome result (λ at. length self.new + 1 ≤ length self.old) }
-        ensures missing { result ≡ None → (language_reader (of_kind kind) self.old ≡ stuck self.new) × (self.new ≡ self.old) }
+        ensures missing { result ≡ None
+            → (language_reader (of_kind kind) self.old ≡ stuck self.new) × (self.new ≡ self.old) }
         ensures comes { is_some result ≡ begins_as (sort_of_kind kind) self.old }
     {
         match self.tokens {
@@ -176,9 +178,11 @@ impl<'t> Cursor<'t> {
     /// Takes the reserved word, where it comes next, and gives its place.
     pub(crate) fn word_if_next(&mut self, word: Word) -> Option<usize>
         ensures reads { language_reader (maybe (reserved word)) self.old ≡ took result self.new }
-        ensures taken { IfSome result (λ at. language_reader (reserved word) self.old ≡ took at self.new) }
+        ensures taken { IfSome result
+            (λ at. language_reader (reserved word) self.old ≡ took at self.new) }
         ensures shorter { IfSome result (λ at. length self.new + 1 ≤ length self.old) }
-        ensures missing { result ≡ None → (language_reader (reserved word) self.old ≡ stuck self.new) × (self.new ≡ self.old) }
+        ensures missing { result ≡ None
+            → (language_reader (reserved word) self.old ≡ stuck self.new) × (self.new ≡ self.old) }
         ensures comes { is_some result ≡ begins_as (AWord word) self.old }
     {
         self.take_if(PieceKind::Word(word))
@@ -186,7 +190,8 @@ impl<'t> Cursor<'t> {
 
     /// Takes the reserved word, and gives its place.
     pub fn word(&mut self, word: Word) -> Result<usize, Stop>
-        ensures reads { Returned (λ at. at) result self.new (language_reader (reserved word) self.old) }
+        ensures reads { Returned (λ at. at) result self.new
+            (language_reader (reserved word) self.old) }
         ensures shorter { IfOk result (λ at. length self.new + 1 ≤ length self.old) }
         ensures unexpected { IfErr result (λ e. e ≡ Stop.Unexpected) }
     {
@@ -195,9 +200,11 @@ impl<'t> Cursor<'t> {
 
     /// Takes the symbol, where it comes next, and gives its place.
     pub(crate) fn symbol_if_next(&mut self, symbol: Symbol) -> Option<usize>
-        ensures taken { IfSome result (λ at. language_reader (mark symbol) self.old ≡ took at self.new) }
+        ensures taken { IfSome result
+            (λ at. language_reader (mark symbol) self.old ≡ took at self.new) }
         ensures shorter { IfSome result (λ at. length self.new + 1 ≤ length self.old) }
-        ensures missing { result ≡ None → (language_reader (mark symbol) self.old ≡ stuck self.new) × (self.new ≡ self.old) }
+        ensures missing { result ≡ None
+            → (language_reader (mark symbol) self.old ≡ stuck self.new) × (self.new ≡ self.old) }
         ensures comes { is_some result ≡ begins_as (ASymbol symbol) self.old }
     {
         self.take_if(PieceKind::Symbol(symbol))
@@ -205,7 +212,8 @@ impl<'t> Cursor<'t> {
 
     /// Takes the symbol, and gives its place.
     pub fn symbol(&mut self, symbol: Symbol) -> Result<usize, Stop>
-        ensures reads { Returned (λ at. at) result self.new (language_reader (mark symbol) self.old) }
+        ensures reads { Returned (λ at. at) result self.new
+            (language_reader (mark symbol) self.old) }
         ensures shorter { IfOk result (λ at. length self.new + 1 ≤ length self.old) }
         ensures unexpected { IfErr result (λ e. e ≡ Stop.Unexpected) }
     {
@@ -214,7 +222,8 @@ impl<'t> Cursor<'t> {
 
     /// Takes the name with this spelling, and gives its place.
     pub fn this_name(&mut self, spelling: &[u8]) -> Result<usize, Stop>
-        ensures reads { Returned (λ at. at) result self.new (language_reader (this_name spelling.now) self.old) }
+        ensures reads { Returned (λ at. at) result self.new
+            (language_reader (this_name spelling.now) self.old) }
         ensures shorter { IfOk result (λ at. length self.new + 1 ≤ length self.old) }
         ensures unexpected { IfErr result (λ e. e ≡ Stop.Unexpected) }
     {
@@ -283,7 +292,8 @@ impl<'t> Cursor<'t> {
 
     /// Takes a number.
     pub fn number(&mut self) -> Result<RawNumber, Stop>
-        ensures reads { Returned written_number result self.new (language_reader any_number self.old) }
+        ensures reads { Returned written_number result self.new
+            (language_reader any_number self.old) }
         ensures shorter { IfOk result (λ n. length self.new + 1 ≤ length self.old) }
         ensures unexpected { IfErr result (λ e. e ≡ Stop.Unexpected) }
     {
@@ -303,7 +313,8 @@ impl<'t> Cursor<'t> {
     /// Takes a number, whose digits are left where they are.
     #[tactic(auto, unfolding(model_core::specs::Text::SnapshotGrammar::exact_format))]
     pub fn digits(&mut self) -> Result<Spelling<'t>, Stop>
-        ensures reads { Returned digits_written result self.new (language_reader exact_format self.old) }
+        ensures reads { Returned digits_written result self.new
+            (language_reader exact_format self.old) }
         ensures shorter { IfOk result (λ n. length self.new + 1 ≤ length self.old) }
         ensures unexpected { IfErr result (λ e. e ≡ Stop.Unexpected) }
     {

@@ -21,7 +21,8 @@ use std::alloc::Global;
 
 /// Reads the number of cells of an array, where one is written.
 fn size(cursor: &mut Cursor<'_>) -> Result<Option<RawNumber>, Stop>
-    ensures { Returned (option_map written_number) result cursor.new (language_reader (maybe (mark OpenBracket *> any_number <* mark CloseBracket)) cursor.old) }
+    ensures { Returned (option_map written_number) result cursor.new
+        (language_reader (maybe (mark OpenBracket *> any_number <* mark CloseBracket)) cursor.old) }
 {
     let Some(_) = cursor.symbol_if_next(Symbol::OpenBracket) else {
         return Ok(None);
@@ -34,7 +35,8 @@ fn size(cursor: &mut Cursor<'_>) -> Result<Option<RawNumber>, Stop>
 /// Reads the watch list, where one is written.
 #[tactic(auto, unfolding(model_core::specs::Text::Language::watch_format))]
 pub(crate) fn watch(alloc: Global, cursor: &mut Cursor<'_>) -> Result<Option<List<RawName>>, Stop>
-    ensures { Returned (option_map (map written_name)) result cursor.new (language_reader (maybe watch_format) cursor.old) }
+    ensures { Returned (option_map (map written_name)) result cursor.new
+        (language_reader (maybe watch_format) cursor.old) }
 {
     let Some(_) = cursor.word_if_next(Word::Watch) else {
         return Ok(None);

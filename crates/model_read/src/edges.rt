@@ -24,7 +24,8 @@ use std::alloc::Global;
 /// Reads the values that an edge carries, where they are written.
 #[tactic(auto, unfolding(model_core::specs::Text::Language::values_format))]
 fn values(alloc: Global, cursor: &mut Cursor<'_>) -> Result<Option<List<RawExpr>>, Stop>
-    ensures { Returned (option_map (map written_expression)) result cursor.new (language_reader (maybe values_format) cursor.old) }
+    ensures { Returned (option_map (map written_expression)) result cursor.new
+        (language_reader (maybe values_format) cursor.old) }
 {
     let Some(_) = cursor.symbol_if_next(Symbol::OpenParenthesis) else {
         return Ok(None);
@@ -37,7 +38,8 @@ fn values(alloc: Global, cursor: &mut Cursor<'_>) -> Result<Option<List<RawExpr>
 /// Reads the condition of an edge, where one is written.
 #[tactic(auto, unfolding(model_core::specs::Text::Language::when_format))]
 fn condition(alloc: Global, cursor: &mut Cursor<'_>) -> Result<Option<RawExpr>, Stop>
-    ensures { Returned (option_map written_expression) result cursor.new (language_reader (maybe when_format) cursor.old) }
+    ensures { Returned (option_map written_expression) result cursor.new
+        (language_reader (maybe when_format) cursor.old) }
 {
     let Some(_) = cursor.word_if_next(Word::When) else {
         return Ok(None);
@@ -59,7 +61,8 @@ fn delay(alloc: Global, cursor: &mut Cursor<'_>) -> Result<RawDelay, Stop>
 
 /// Reads the delay of an edge, where one is written.
 fn after(alloc: Global, cursor: &mut Cursor<'_>) -> Result<Option<RawDelay>, Stop>
-    ensures { Returned (option_map written_delay) result cursor.new (language_reader (maybe (reserved After *> delay_format)) cursor.old) }
+    ensures { Returned (option_map written_delay) result cursor.new
+        (language_reader (maybe (reserved After *> delay_format)) cursor.old) }
 {
     let Some(_) = cursor.word_if_next(Word::After) else {
         return Ok(None);
@@ -69,7 +72,8 @@ fn after(alloc: Global, cursor: &mut Cursor<'_>) -> Result<Option<RawDelay>, Sto
 
 /// Reads the priority of an edge, where one is written.
 fn priority(cursor: &mut Cursor<'_>) -> Result<Option<RawNumber>, Stop>
-    ensures { Returned (option_map written_number) result cursor.new (language_reader (maybe (reserved Priority *> any_number)) cursor.old) }
+    ensures { Returned (option_map written_number) result cursor.new
+        (language_reader (maybe (reserved Priority *> any_number)) cursor.old) }
 {
     let Some(_) = cursor.word_if_next(Word::Priority) else {
         return Ok(None);
@@ -80,7 +84,8 @@ fn priority(cursor: &mut Cursor<'_>) -> Result<Option<RawNumber>, Stop>
 /// Reads the delay and the priority of an edge.
 #[tactic(auto, unfolding(model_core::specs::Text::Language::timing_format))]
 fn timing(alloc: Global, cursor: &mut Cursor<'_>) -> Result<RawEdgeForm, Stop>
-    ensures { Returned written_edge_kind result cursor.new (language_reader timing_format cursor.old) }
+    ensures { Returned written_edge_kind result cursor.new
+        (language_reader timing_format cursor.old) }
 {
     let delay = HeldValue::of(after(alloc, cursor)?);
     let priority = priority(cursor)?;
@@ -140,7 +145,8 @@ struct Cancellation {
 /// Reads the part between `cancel` and the condition.
 #[tactic(auto, unfolding(model_core::specs::Text::Language::cancelled_format))]
 fn cancelled(alloc: Global, cursor: &mut Cursor<'_>) -> Result<Cancellation, Stop>
-    ensures { Returned written_cancel result cursor.new (language_reader cancelled_format cursor.old) }
+    ensures { Returned written_cancel result cursor.new
+        (language_reader cancelled_format cursor.old) }
 {
     if let Some(_) = cursor.word_if_next(Word::All) {
         let target = cursor.name(alloc)?;

@@ -22,7 +22,8 @@ use std::alloc::Global;
 /// Reads an expression.
 #[cycle(expressions)]
 pub(crate) fn expression(alloc: Global, cursor: &mut Cursor<'_>) -> Result<RawExpr, Stop>
-    ensures reads { Returned written_expression result cursor.new (language_reader expression_format cursor.old) }
+    ensures reads { Returned written_expression result cursor.new
+        (language_reader expression_format cursor.old) }
     ensures shorter { IfOk result (λ e. length cursor.new + 1 ≤ length cursor.old) }
 {
     conditional(alloc, cursor)
@@ -31,7 +32,8 @@ pub(crate) fn expression(alloc: Global, cursor: &mut Cursor<'_>) -> Result<RawEx
 /// Reads `if` with its parts, or else operands of `or`.
 #[cycle(expressions)]
 fn conditional(alloc: Global, cursor: &mut Cursor<'_>) -> Result<RawExpr, Stop>
-    ensures reads { Returned written_expression result cursor.new (language_reader whole_format cursor.old) }
+    ensures reads { Returned written_expression result cursor.new
+        (language_reader whole_format cursor.old) }
     ensures shorter { IfOk result (λ e. length cursor.new + 1 ≤ length cursor.old) }
 {
     if cursor.begins_word(Word::If) {
@@ -46,7 +48,8 @@ fn conditional(alloc: Global, cursor: &mut Cursor<'_>) -> Result<RawExpr, Stop>
 #[inline(never)]
 #[cycle(expressions)]
 fn branches(alloc: Global, cursor: &mut Cursor<'_>) -> Result<RawExpr, Stop>
-    ensures reads { Returned written_expression result cursor.new (language_reader if_format cursor.old) }
+    ensures reads { Returned written_expression result cursor.new
+        (language_reader if_format cursor.old) }
     ensures shorter { IfOk result (λ e. length cursor.new + 1 ≤ length cursor.old) }
 {
     let at = cursor.word(Word::If)?;
@@ -66,7 +69,8 @@ fn branches(alloc: Global, cursor: &mut Cursor<'_>) -> Result<RawExpr, Stop>
 #[cycle(expressions)]
 fn operand(alloc: Global, cursor: &mut Cursor<'_>, under: usize) -> Result<RawExpr, Stop>
     requires { under ≤ 5 }
-    ensures reads { Returned written_expression result cursor.new (language_reader (ByRule (operand_level under)) cursor.old) }
+    ensures reads { Returned written_expression result cursor.new
+        (language_reader (ByRule (operand_level under)) cursor.old) }
     ensures shorter { IfOk result (λ e. length cursor.new + 1 ≤ length cursor.old) }
 {
     if cursor.begins_negation(under) {
@@ -84,7 +88,8 @@ fn operand(alloc: Global, cursor: &mut Cursor<'_>, under: usize) -> Result<RawEx
 #[cycle(expressions)]
 fn negation(alloc: Global, cursor: &mut Cursor<'_>, under: usize) -> Result<RawExpr, Stop>
     requires { under ≤ 5 }
-    ensures reads { Returned written_expression result cursor.new (and_next (climb under 3) (language_reader not_format cursor.old)) }
+    ensures reads { Returned written_expression result cursor.new
+        (and_next (climb under 3) (language_reader not_format cursor.old)) }
     ensures shorter { IfOk result (λ e. length cursor.new + 1 ≤ length cursor.old) }
 {
     let first = negated(alloc, cursor)?;
@@ -103,7 +108,8 @@ fn others(
     under: usize,
 ) -> Result<RawExpr, Stop>
     requires { under ≤ 5 }
-    ensures reads { Returned written_expression result cursor.new (climb under least (written_expression first) cursor.old) }
+    ensures reads { Returned written_expression result cursor.new
+        (climb under least (written_expression first) cursor.old) }
     ensures shorter { IfOk result (λ e. length cursor.new ≤ length cursor.old) }
 {
     let mut left = first;
@@ -119,7 +125,9 @@ fn others(
 
 /// Two operands with an operator between them.
 fn joined(alloc: Global, left: RawExpr, op: Op, right: RawExpr) -> Result<RawExpr, Stop>
-    ensures ok { IfOk result (λ e. written_expression e ≡ joining (written_expression left) (operator_of op, written_expression right)) }
+    ensures ok { IfOk result
+        (λ e. written_expression e
+        ≡ joining (written_expression left) (operator_of op, written_expression right)) }
     ensures memory { (e : Stop) → result ≡ Err e → e ≡ Stop.NoMemory }
 {
     let at = left.at;
@@ -131,7 +139,8 @@ fn joined(alloc: Global, left: RawExpr, op: Op, right: RawExpr) -> Result<RawExp
 /// Reads `not` and its operand.
 #[cycle(expressions)]
 fn negated(alloc: Global, cursor: &mut Cursor<'_>) -> Result<RawExpr, Stop>
-    ensures reads { Returned written_expression result cursor.new (language_reader not_format cursor.old) }
+    ensures reads { Returned written_expression result cursor.new
+        (language_reader not_format cursor.old) }
     ensures shorter { IfOk result (λ e. length cursor.new + 1 ≤ length cursor.old) }
 {
     let at = cursor.word(Word::Not)?;
@@ -145,7 +154,8 @@ fn negated(alloc: Global, cursor: &mut Cursor<'_>) -> Result<RawExpr, Stop>
 /// Reads an operand of `*`.
 #[cycle(expressions)]
 fn unary(alloc: Global, cursor: &mut Cursor<'_>) -> Result<RawExpr, Stop>
-    ensures reads { Returned written_expression result cursor.new (language_reader (ByRule Unary) cursor.old) }
+    ensures reads { Returned written_expression result cursor.new
+        (language_reader (ByRule Unary) cursor.old) }
     ensures shorter { IfOk result (λ e. length cursor.new + 1 ≤ length cursor.old) }
 {
     signed(alloc, cursor)
@@ -154,7 +164,8 @@ fn unary(alloc: Global, cursor: &mut Cursor<'_>) -> Result<RawExpr, Stop>
 /// Reads `-` and its operand, or else a part that no operator divides.
 #[cycle(expressions)]
 fn signed(alloc: Global, cursor: &mut Cursor<'_>) -> Result<RawExpr, Stop>
-    ensures reads { Returned written_expression result cursor.new (language_reader unary_format cursor.old) }
+    ensures reads { Returned written_expression result cursor.new
+        (language_reader unary_format cursor.old) }
     ensures shorter { IfOk result (λ e. length cursor.new + 1 ≤ length cursor.old) }
 {
     if cursor.begins_symbol(Symbol::Minus) {
@@ -168,7 +179,8 @@ fn signed(alloc: Global, cursor: &mut Cursor<'_>) -> Result<RawExpr, Stop>
 #[inline(never)]
 #[cycle(expressions)]
 fn negative(alloc: Global, cursor: &mut Cursor<'_>) -> Result<RawExpr, Stop>
-    ensures reads { Returned written_expression result cursor.new (language_reader negative_format cursor.old) }
+    ensures reads { Returned written_expression result cursor.new
+        (language_reader negative_format cursor.old) }
     ensures shorter { IfOk result (λ e. length cursor.new + 1 ≤ length cursor.old) }
 {
     let at = cursor.symbol(Symbol::Minus)?;
@@ -182,7 +194,8 @@ fn negative(alloc: Global, cursor: &mut Cursor<'_>) -> Result<RawExpr, Stop>
 /// Reads an index in brackets.
 #[cycle(expressions)]
 fn bracketed(alloc: Global, cursor: &mut Cursor<'_>) -> Result<RawExpr, Stop>
-    ensures reads { Returned written_expression result cursor.new (language_reader index_format cursor.old) }
+    ensures reads { Returned written_expression result cursor.new
+        (language_reader index_format cursor.old) }
     ensures shorter { IfOk result (λ e. length cursor.new + 1 ≤ length cursor.old) }
 {
     cursor.symbol(Symbol::OpenBracket)?;
@@ -193,7 +206,8 @@ fn bracketed(alloc: Global, cursor: &mut Cursor<'_>) -> Result<RawExpr, Stop>
 
 /// Reads the index of a cell, where one comes.
 pub(crate) fn index(alloc: Global, cursor: &mut Cursor<'_>) -> Result<Option<RawExpr>, Stop>
-    ensures reads { Returned (option_map written_expression) result cursor.new (language_reader (maybe index_format) cursor.old) }
+    ensures reads { Returned (option_map written_expression) result cursor.new
+        (language_reader (maybe index_format) cursor.old) }
     ensures shorter { IfOk result (λ e. length cursor.new ≤ length cursor.old) }
 {
     if !cursor.begins_symbol(Symbol::OpenBracket) {
@@ -206,7 +220,8 @@ pub(crate) fn index(alloc: Global, cursor: &mut Cursor<'_>) -> Result<Option<Raw
 #[inline(never)]
 #[cycle(expressions)]
 fn called(alloc: Global, cursor: &mut Cursor<'_>, word: Word, op: Op) -> Result<RawExpr, Stop>
-    ensures reads { Returned written_expression result cursor.new (language_reader (call_format word (operator_of op)) cursor.old) }
+    ensures reads { Returned written_expression result cursor.new
+        (language_reader (call_format word (operator_of op)) cursor.old) }
     ensures shorter { IfOk result (λ e. length cursor.new + 1 ≤ length cursor.old) }
 {
     let at = cursor.word(word)?;
@@ -225,7 +240,8 @@ fn called(alloc: Global, cursor: &mut Cursor<'_>, word: Word, op: Op) -> Result<
 #[inline(never)]
 #[cycle(expressions)]
 fn variable(alloc: Global, cursor: &mut Cursor<'_>) -> Result<RawExpr, Stop>
-    ensures reads { Returned written_expression result cursor.new (language_reader named_format cursor.old) }
+    ensures reads { Returned written_expression result cursor.new
+        (language_reader named_format cursor.old) }
     ensures shorter { IfOk result (λ e. length cursor.new + 1 ≤ length cursor.old) }
 {
     let name = cursor.name(alloc)?;
@@ -242,7 +258,9 @@ fn variable(alloc: Global, cursor: &mut Cursor<'_>) -> Result<RawExpr, Stop>
 #[inline(never)]
 #[cycle(expressions)]
 fn cell(alloc: Global, cursor: &mut Cursor<'_>, array: RawName) -> Result<RawExpr, Stop>
-    ensures reads { Returned written_expression result cursor.new (and_next (λ i. took (of_name (written_name array) (Some i))) (language_reader index_format cursor.old)) }
+    ensures reads { Returned written_expression result cursor.new
+        (and_next (λ i. took (of_name (written_name array) (Some i)))
+        (language_reader index_format cursor.old)) }
     ensures shorter { IfOk result (λ e. length cursor.new + 1 ≤ length cursor.old) }
 {
     let index = bracketed(alloc, cursor)?;
@@ -256,7 +274,8 @@ fn cell(alloc: Global, cursor: &mut Cursor<'_>, array: RawName) -> Result<RawExp
 #[inline(never)]
 #[cycle(expressions)]
 fn enclosed(alloc: Global, cursor: &mut Cursor<'_>) -> Result<RawExpr, Stop>
-    ensures reads { Returned written_expression result cursor.new (language_reader in_parentheses_format cursor.old) }
+    ensures reads { Returned written_expression result cursor.new
+        (language_reader in_parentheses_format cursor.old) }
     ensures shorter { IfOk result (λ e. length cursor.new + 1 ≤ length cursor.old) }
 {
     let at = cursor.symbol(Symbol::OpenParenthesis)?;
@@ -269,7 +288,8 @@ fn enclosed(alloc: Global, cursor: &mut Cursor<'_>) -> Result<RawExpr, Stop>
 /// Reads what no operator divides.
 #[cycle(expressions)]
 fn primary(alloc: Global, cursor: &mut Cursor<'_>) -> Result<RawExpr, Stop>
-    ensures reads { Returned written_expression result cursor.new (language_reader (ByRule Primary) cursor.old) }
+    ensures reads { Returned written_expression result cursor.new
+        (language_reader (ByRule Primary) cursor.old) }
     ensures shorter { IfOk result (λ e. length cursor.new + 1 ≤ length cursor.old) }
 {
     undivided(alloc, cursor)
@@ -278,7 +298,8 @@ fn primary(alloc: Global, cursor: &mut Cursor<'_>) -> Result<RawExpr, Stop>
 /// Reads a number, a word, a variable, or what is in parentheses.
 #[cycle(expressions)]
 fn undivided(alloc: Global, cursor: &mut Cursor<'_>) -> Result<RawExpr, Stop>
-    ensures reads { Returned written_expression result cursor.new (language_reader primary_format cursor.old) }
+    ensures reads { Returned written_expression result cursor.new
+        (language_reader primary_format cursor.old) }
     ensures shorter { IfOk result (λ e. length cursor.new + 1 ≤ length cursor.old) }
 {
     if cursor.begins_number() {

@@ -75,7 +75,8 @@ fn count_of(kind: PieceKind) -> OpeningStep
 /// The last token that ends a part and has at most so many tokens before it.
 fn last_end(tokens: &[Piece], limit: usize) -> Option<usize>
     ensures { IfSome result (λ place. (place ≤ limit) × (place < length tokens.now)
-        × ((bytes : List ℕ) (d : Piece) → ends_part (piece_kind bytes (slice_index_or tokens.now place d).kind) ≡ true)) }
+        × ((bytes : List ℕ) (d : Piece)
+        → ends_part (piece_kind bytes (slice_index_or tokens.now place d).kind) ≡ true)) }
 {
     let mut place = tokens.len();
     if place > limit {
@@ -125,7 +126,9 @@ fn counted_too_deep(tokens: &[Piece], limit: usize) -> Option<usize>
 /// How many tokens there are up to and with the first word `end`, or in all where there is none.
 pub(crate) fn front_length(tokens: &[Piece]) -> usize
     ensures inside { result ≤ length tokens.now }
-    ensures front { (text : List ℕ) → map (piece_of text) (take result tokens.now) ≡ front_to_end (map (piece_of text) tokens.now) }
+    ensures front { (text : List ℕ)
+        → map (piece_of text) (take result tokens.now)
+        ≡ front_to_end (map (piece_of text) tokens.now) }
 {
     for (place, token) in tokens.iter().enumerate() {
         if token.kind == PieceKind::Word(Word::End) {

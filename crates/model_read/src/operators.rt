@@ -41,7 +41,8 @@ pub fn next_level(level: usize) -> usize
 
 /// The operator that a token of the kind is, if any.
 pub(crate) fn infix_of(kind: PieceKind) -> Option<Infix>
-    ensures { (bytes : List ℕ) → option_map infix_of result ≡ infix_of_kind (piece_kind bytes kind) }
+    ensures { (bytes : List ℕ)
+        → option_map infix_of result ≡ infix_of_kind (piece_kind bytes kind) }
 {
     match kind {
         PieceKind::Symbol(symbol) => infix_symbol(symbol),

@@ -56,7 +56,8 @@ fn and_more<'t, T: Repeated<'t>>(
     cursor: &mut Cursor<'t>,
     items: List<T>,
 ) -> Result<List<T>, Stop>
-    ensures { Returned (map T.plain) result cursor.new (with_front (map T.plain items) (language_reader (Many T.format) cursor.old)) }
+    ensures { Returned (map T.plain) result cursor.new
+        (with_front (map T.plain items) (language_reader (Many T.format) cursor.old)) }
 {
     let mut all = items;
     while T::begins(cursor) {
@@ -67,7 +68,8 @@ fn and_more<'t, T: Repeated<'t>>(
 
 /// Reads any number of phrases.
 pub fn many<'t, T: Repeated<'t>>(alloc: Global, cursor: &mut Cursor<'t>) -> Result<List<T>, Stop>
-    ensures { Returned (map T.plain) result cursor.new (language_reader (Many T.format) cursor.old) }
+    ensures { Returned (map T.plain) result cursor.new
+        (language_reader (Many T.format) cursor.old) }
 {
     and_more(alloc, cursor, List::new(alloc))
 }
@@ -77,7 +79,8 @@ pub(crate) fn at_least_one<'t, T: Repeated<'t>>(
     alloc: Global,
     cursor: &mut Cursor<'t>,
 ) -> Result<List<T>, Stop>
-    ensures { Returned (map T.plain) result cursor.new (language_reader (at_least_one T.format) cursor.old) }
+    ensures { Returned (map T.plain) result cursor.new
+        (language_reader (at_least_one T.format) cursor.old) }
 {
     let first = List::of_one(alloc, T::read(alloc, cursor)?)?;
     and_more(alloc, cursor, first)
@@ -85,7 +88,8 @@ pub(crate) fn at_least_one<'t, T: Repeated<'t>>(
 
 /// Reads a comma and the phrase after it.
 fn next<'t, T: Phrase<'t>>(alloc: Global, cursor: &mut Cursor<'t>) -> Result<T, Stop>
-    ensures { Returned T.plain result cursor.new (language_reader (mark Comma *> T.format) cursor.old) }
+    ensures { Returned T.plain result cursor.new
+        (language_reader (mark Comma *> T.format) cursor.old) }
 {
     cursor.symbol(Symbol::Comma)?;
     T::read(alloc, cursor)
@@ -97,7 +101,9 @@ fn and_others<'t, T: Phrase<'t>>(
     cursor: &mut Cursor<'t>,
     items: List<T>,
 ) -> Result<List<T>, Stop>
-    ensures { Returned (map T.plain) result cursor.new (with_front (map T.plain items) (language_reader (Many (mark Comma *> T.format)) cursor.old)) }
+    ensures { Returned (map T.plain) result cursor.new
+        (with_front (map T.plain items)
+        (language_reader (Many (mark Comma *> T.format)) cursor.old)) }
 {
     let mut all = items;
     while cursor.begins_symbol(Symbol::Comma) {
@@ -108,7 +114,8 @@ fn and_others<'t, T: Phrase<'t>>(
 
 /// Reads one or more phrases, separated by commas.
 pub fn separated<'t, T: Phrase<'t>>(alloc: Global, cursor: &mut Cursor<'t>) -> Result<List<T>, Stop>
-    ensures { Returned (map T.plain) result cursor.new (language_reader (separated T.format) cursor.old) }
+    ensures { Returned (map T.plain) result cursor.new
+        (language_reader (separated T.format) cursor.old) }
 {
     let first = List::of_one(alloc, T::read(alloc, cursor)?)?;
     and_others(alloc, cursor, first)

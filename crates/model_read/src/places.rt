@@ -35,7 +35,8 @@ impl Model for Places {
 impl Places {
     /// The places of vertices.
     pub fn of_vertices(alloc: Global, vertices: &[Vertex]) -> Result<Places, NoMemory>
-        ensures { IfOk result (λ places. HasPlaces (names_of_vertices (map vertex_of vertices.now)) places) }
+        ensures { IfOk result
+            (λ places. HasPlaces (names_of_vertices (map vertex_of vertices.now)) places) }
     {
         let mut places = Places::with_capacity(alloc, vertices.len())?;
         for (place, vertex) in vertices.iter().enumerate() {
@@ -46,7 +47,8 @@ impl Places {
 
     /// The places of variables.
     pub fn of_variables(alloc: Global, vars: &[Var]) -> Result<Places, NoMemory>
-        ensures { IfOk result (λ places. HasPlaces (names_of_variables (map variable_of vars.now)) places) }
+        ensures { IfOk result
+            (λ places. HasPlaces (names_of_variables (map variable_of vars.now)) places) }
     {
         let mut places = Places::with_capacity(alloc, vars.len())?;
         for (place, var) in vars.iter().enumerate() {

@@ -52,7 +52,8 @@ pub(crate) fn kind(cursor: &mut Cursor<'_>) -> Result<RawKind, Stop>
 /// Reads an initial value.
 #[tactic(auto, unfolding(model_core::specs::Text::Language::literal_format))]
 pub(crate) fn literal(cursor: &mut Cursor<'_>) -> Result<RawLiteral, Stop>
-    ensures { Returned written_literal result cursor.new (language_reader literal_format cursor.old) }
+    ensures { Returned written_literal result cursor.new
+        (language_reader literal_format cursor.old) }
 {
     if let Some(at) = cursor.word_if_next(Word::True) {
         return Ok(RawLiteral::Truth { at, value: true });

@@ -34,7 +34,8 @@ struct RawVersion {
 /// Reads the line of the version, where there is one.
 #[tactic(auto, unfolding(model_core::specs::Text::Language::version_format))]
 fn version(cursor: &mut Cursor<'_>) -> Result<Option<RawVersion>, Stop>
-    ensures { Returned (option_map written_version) result cursor.new (language_reader (maybe version_format) cursor.old) }
+    ensures { Returned (option_map written_version) result cursor.new
+        (language_reader (maybe version_format) cursor.old) }
 {
     let Some(at) = cursor.word_if_next(Word::Version) else {
         return Ok(None);
@@ -56,7 +57,8 @@ fn text_place(version: Option<RawVersion>, model: usize) -> usize
 
 /// The number of a text's version, where it says one.
 fn version_number(version: Option<RawVersion>) -> Option<RawNumber>
-    ensures { option_map written_number result ≡ option_map (λ (l : VersionLine). l.number) (option_map written_version version) }
+    ensures { option_map written_number result
+        ≡ option_map (λ (l : VersionLine). l.number) (option_map written_version version) }
 {
     match version {
         Some(line) => Some(line.number),
@@ -67,7 +69,8 @@ fn version_number(version: Option<RawVersion>) -> Option<RawNumber>
 /// Reads what comes before the vertices of a model. The model that it gives has no vertices, and ends at byte 0.
 #[tactic(auto, unfolding(crate::specs::Beginnings::model_beginning))]
 pub fn read_model_beginning(alloc: Global, cursor: &mut Cursor<'_>) -> Result<RawModel, Stop>
-    ensures { Returned (λ m. with_vertices (written_model m)) result cursor.new (language_reader model_beginning cursor.old) }
+    ensures { Returned (λ m. with_vertices (written_model m)) result cursor.new
+        (language_reader model_beginning cursor.old) }
 {
     let version = version(cursor)?;
     let model = cursor.word(Word::Model)?;
@@ -118,11 +121,15 @@ fn whole(alloc: Global, cursor: &mut Cursor<'_>) -> Result<RawModel, Stop>
 /// from which no continuation makes a model text: that of a token, or the text's length.
 pub fn parse_pieces(alloc: Global, pieces: &Pieces<'_>) -> Result<RawModel, ParseError>
     // What is read is spelled, with few openings.
-    ensures ok { IfOk result (λ m. IsText (pieces_lexemes pieces.now) (written_model m) × HasFewOpenings OPENINGS_MAX (pieces_lexemes pieces.now)) }
+    ensures ok { IfOk result
+        (λ m. IsText (pieces_lexemes pieces.now) (written_model m)
+        × HasFewOpenings OPENINGS_MAX (pieces_lexemes pieces.now)) }
     // What is refused is spelled by no model, and this is where the pieces stop to begin one.
     ensures unexpected { (at : ℕ) → result ≡ Err (ParseError.Unexpected at)
-        → (too_deep_at OPENINGS_MAX (pieces_lexemes pieces.now) ≡ None) × IsUnexpectedAt pieces.now.text.now (pieces_lexemes pieces.now) at }
-    ensures too_deep { (at : ℕ) → result ≡ Err (ParseError.TooDeep at) → too_deep_at OPENINGS_MAX (pieces_lexemes pieces.now) ≡ Some at }
+        → (too_deep_at OPENINGS_MAX (pieces_lexemes pieces.now) ≡ None)
+        × IsUnexpectedAt pieces.now.text.now (pieces_lexemes pieces.now) at }
+    ensures too_deep { (at : ℕ) → result ≡ Err (ParseError.TooDeep at)
+        → too_deep_at OPENINGS_MAX (pieces_lexemes pieces.now) ≡ Some at }
 {
     pieces_are_in_text();
     let list = pieces.list.as_slice();
@@ -146,12 +153,18 @@ pub fn parse_front_pieces(
 ) -> Result<(RawModel, usize), ParseError>
     requires { from ≤ length pieces.now.list }
     // What is read is there, with few openings, and what is left are the pieces from the answer's place on.
-    ensures ok { IfOk result (λ r. BeginsWithText (drop from (pieces_lexemes pieces.now)) (written_model r.0) (drop r.1 (pieces_lexemes pieces.now)) × HasFewOpenings OPENINGS_MAX (front_to_end (drop from (pieces_lexemes pieces.now)))) }
+    ensures ok { IfOk result
+        (λ r. BeginsWithText (drop from (pieces_lexemes pieces.now)) (written_model r.0)
+        (drop r.1 (pieces_lexemes pieces.now))
+        × HasFewOpenings OPENINGS_MAX (front_to_end (drop from (pieces_lexemes pieces.now)))) }
     ensures inside { IfOk result (λ r. r.1 ≤ length pieces.now.list) }
     ensures unexpected { (at : ℕ) → result ≡ Err (ParseError.Unexpected at)
-        → (too_deep_at OPENINGS_MAX (front_to_end (drop from (pieces_lexemes pieces.now))) ≡ None) × IsUnexpectedAt pieces.now.text.now (front_to_end (drop from (pieces_lexemes pieces.now))) at }
+        → (too_deep_at OPENINGS_MAX (front_to_end (drop from (pieces_lexemes pieces.now))) ≡ None)
+        × IsUnexpectedAt pieces.now.text.now
+        (front_to_end (drop from (pieces_lexemes pieces.now))) at }
     ensures too_deep { (at : ℕ) → result ≡ Err (ParseError.TooDeep at)
-        → too_deep_at OPENINGS_MAX (front_to_end (drop from (pieces_lexemes pieces.now))) ≡ Some at }
+        → too_deep_at OPENINGS_MAX (front_to_end (drop from (pieces_lexemes pieces.now)))
+        ≡ Some at }
 {
     pieces_are_in_text();
     let some = &pieces.list.as_slice()[from..];

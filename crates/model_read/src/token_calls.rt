@@ -19,11 +19,15 @@ use std::alloc::Global;
 /// from which no continuation makes a model text: that of a token, or the text's length.
 pub fn parse(alloc: Global, tokens: &Tokens<'_>) -> Result<RawModel, ParseError>
     // What is read is spelled, with few openings.
-    ensures ok { IfOk result (λ m. IsText (lexemes tokens.now) (written_model m) × HasFewOpenings OPENINGS_MAX (lexemes tokens.now)) }
+    ensures ok { IfOk result
+        (λ m. IsText (lexemes tokens.now) (written_model m)
+        × HasFewOpenings OPENINGS_MAX (lexemes tokens.now)) }
     // What is refused is spelled by no model, and this is where the tokens stop to begin one.
     ensures unexpected { (at : ℕ) → result ≡ Err (ParseError.Unexpected at)
-        → (too_deep_at OPENINGS_MAX (lexemes tokens.now) ≡ None) × IsUnexpectedAt tokens.now.text.now (lexemes tokens.now) at }
-    ensures too_deep { (at : ℕ) → result ≡ Err (ParseError.TooDeep at) → too_deep_at OPENINGS_MAX (lexemes tokens.now) ≡ Some at }
+        → (too_deep_at OPENINGS_MAX (lexemes tokens.now) ≡ None)
+        × IsUnexpectedAt tokens.now.text.now (lexemes tokens.now) at }
+    ensures too_deep { (at : ℕ) → result ≡ Err (ParseError.TooDeep at)
+        → too_deep_at OPENINGS_MAX (lexemes tokens.now) ≡ Some at }
 {
     pieces_are_the_tokens();
     parse_pieces(alloc, &tokens.pieces)
@@ -41,10 +45,14 @@ pub fn parse_front(
 ) -> Result<(RawModel, usize), ParseError>
     requires { from ≤ length tokens.now.list }
     // What is read is there, with few openings, and what is left are the tokens from the answer's place on.
-    ensures ok { IfOk result (λ r. BeginsWithText (drop from (lexemes tokens.now)) (written_model r.0) (drop r.1 (lexemes tokens.now)) × HasFewOpenings OPENINGS_MAX (front_to_end (drop from (lexemes tokens.now)))) }
+    ensures ok { IfOk result
+        (λ r. BeginsWithText (drop from (lexemes tokens.now)) (written_model r.0)
+        (drop r.1 (lexemes tokens.now))
+        × HasFewOpenings OPENINGS_MAX (front_to_end (drop from (lexemes tokens.now)))) }
     ensures inside { IfOk result (λ r. r.1 ≤ length tokens.now.list) }
     ensures unexpected { (at : ℕ) → result ≡ Err (ParseError.Unexpected at)
-        → (too_deep_at OPENINGS_MAX (front_to_end (drop from (lexemes tokens.now))) ≡ None) × IsUnexpectedAt tokens.now.text.now (front_to_end (drop from (lexemes tokens.now))) at }
+        → (too_deep_at OPENINGS_MAX (front_to_end (drop from (lexemes tokens.now))) ≡ None)
+        × IsUnexpectedAt tokens.now.text.now (front_to_end (drop from (lexemes tokens.now))) at }
     ensures too_deep { (at : ℕ) → result ≡ Err (ParseError.TooDeep at)
         → too_deep_at OPENINGS_MAX (front_to_end (drop from (lexemes tokens.now))) ≡ Some at }
 {

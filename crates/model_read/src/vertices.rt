@@ -21,7 +21,9 @@ use std::alloc::Global;
 
 /// Reads the parameters of a vertex, where they are written.
 fn parameters(alloc: Global, cursor: &mut Cursor<'_>) -> Result<Option<List<RawName>>, Stop>
-    ensures { Returned (option_map (map written_name)) result cursor.new (language_reader (maybe (mark OpenParenthesis *> separated any_name <* mark CloseParenthesis)) cursor.old) }
+    ensures { Returned (option_map (map written_name)) result cursor.new
+        (language_reader
+        (maybe (mark OpenParenthesis *> separated any_name <* mark CloseParenthesis)) cursor.old) }
 {
     let Some(_) = cursor.symbol_if_next(Symbol::OpenParenthesis) else {
         return Ok(None);
@@ -34,7 +36,8 @@ fn parameters(alloc: Global, cursor: &mut Cursor<'_>) -> Result<Option<List<RawN
 /// Reads what comes before the changes of a vertex. The vertex that it gives has neither changes nor edges.
 #[tactic(auto, unfolding(crate::specs::Beginnings::vertex_beginning))]
 pub fn read_vertex_beginning(alloc: Global, cursor: &mut Cursor<'_>) -> Result<RawVertex, Stop>
-    ensures { Returned (λ v. with_body (written_vertex v)) result cursor.new (language_reader vertex_beginning cursor.old) }
+    ensures { Returned (λ v. with_body (written_vertex v)) result cursor.new
+        (language_reader vertex_beginning cursor.old) }
 {
     let at = cursor.word(Word::Vertex)?;
     let name = cursor.name(alloc)?;

@@ -26,7 +26,11 @@ fn enclosed(
     names: &Names,
     kinds: &[Option<Kind>],
 ) -> Result<List<Expr>, NotRead>
-    ensures { IfOk result (λ es. ReadSure values_format (meaning_of names.now) (fitting_faults (meaning_of names.now) kinds.now) (λ d. each_numbered (numbering.expression d)) cursor.old cursor.new (map expression_of es)) }
+    ensures { IfOk result
+        (λ es. ReadSure values_format (meaning_of names.now)
+        (fitting_faults (meaning_of names.now) kinds.now)
+        (λ d. each_numbered (numbering.expression d)) cursor.old cursor.new
+        (map expression_of es)) }
 {
     cursor.symbol(Symbol::OpenParenthesis)?;
     let values = values(alloc, cursor, names, kinds)?;
@@ -41,7 +45,9 @@ fn given(
     names: &Names,
     kinds: &[Option<Kind>],
 ) -> Result<List<Expr>, NotRead>
-    ensures { IfOk result (λ es. ReadGiven (meaning_of names.now) kinds.now cursor.old cursor.new (map expression_of es)) }
+    ensures { IfOk result
+        (λ es. ReadGiven (meaning_of names.now) kinds.now cursor.old cursor.new
+        (map expression_of es)) }
 {
     if cursor.begins_symbol(Symbol::OpenParenthesis) {
         return enclosed(alloc, cursor, names, kinds);
@@ -88,7 +94,9 @@ pub(crate) fn carried(
     names: &Names,
     taken: &[List<Option<Kind>>],
 ) -> Result<Destination, NotRead>
-    ensures { IfOk result (λ c. ReadCarried (meaning_of names.now) taken.now cursor.old cursor.new c.target (map expression_of c.values)) }
+    ensures { IfOk result
+        (λ c. ReadCarried (meaning_of names.now) taken.now cursor.old cursor.new c.target
+        (map expression_of c.values)) }
 {
     let name = cursor.spelling()?;
     let target = target(names, name)?;

@@ -28,7 +28,9 @@ use std::alloc::Global;
 
 /// Reads a variable or a cell that takes a value.
 fn target(alloc: Global, cursor: &mut Cursor<'_>, names: &Names) -> Result<Typed<Target>, NotRead>
-    ensures reads { IfOk result (λ t. ReadTarget (meaning_of names.now) (language_reader target_format cursor.old) cursor.new (location_of t.part) t.kind) }
+    ensures reads { IfOk result
+        (λ t. ReadTarget (meaning_of names.now)
+        (language_reader target_format cursor.old) cursor.new (location_of t.part) t.kind) }
     ensures shorter { IfOk result (λ t. length cursor.new + 1 ≤ length cursor.old) }
 {
     let name = cursor.spelling()?;
@@ -76,7 +78,10 @@ fn targets_begun_with(
 
 /// Reads targets, separated by commas: no more than a change may have.
 fn targets(alloc: Global, cursor: &mut Cursor<'_>, names: &Names) -> Result<TypedTargets, NotRead>
-    ensures reads { IfOk result (λ t. ReadRow (separated target_format) (IsTarget (meaning_of names.now)) cursor.old cursor.new (map location_of t.targets) t.kinds.items) }
+    ensures reads { IfOk result
+        (λ t. ReadRow (separated target_format)
+        (IsTarget (meaning_of names.now)) cursor.old cursor.new
+        (map location_of t.targets) t.kinds.items) }
     ensures few { IfOk result (λ t. length t.kinds.items ≤ TARGETS_MAX) }
 {
     let first = target(alloc, cursor, names)?;
@@ -100,7 +105,10 @@ fn targets(alloc: Global, cursor: &mut Cursor<'_>, names: &Names) -> Result<Type
 
 /// Reads a change that computes values.
 fn set(alloc: Global, cursor: &mut Cursor<'_>, names: &Names) -> Result<Change, NotRead>
-    ensures { IfOk result (λ c. ReadSure change_format (meaning_of names.now) (change_faults (meaning_of names.now)) numbering.change cursor.old cursor.new (change_of c)) }
+    ensures { IfOk result
+        (λ c. ReadSure change_format (meaning_of names.now)
+        (change_faults (meaning_of names.now)) numbering.change cursor.old cursor.new
+        (change_of c)) }
 {
     cursor.word(Word::Set)?;
     let TypedTargets { targets, kinds } = targets(alloc, cursor, names)?;
@@ -112,7 +120,8 @@ fn set(alloc: Global, cursor: &mut Cursor<'_>, names: &Names) -> Result<Change, 
 
 /// The source of a draw that is written, where it breaks no static rule.
 fn checked(names: &Names, raw: &RawSource) -> Result<(u8, Choice), NotRead>
-    ensures { IfOk result (λ s. IsSource (meaning_of names.now) (written_source raw.now) s.0 (choice_of s.1)) }
+    ensures { IfOk result
+        (λ s. IsSource (meaning_of names.now) (written_source raw.now) s.0 (choice_of s.1)) }
 {
     let mut told = FirstFault::new();
     let source = sig_types::source(names, &raw.stream, &raw.choice, &mut told);
@@ -126,7 +135,8 @@ pub(crate) fn source(
     cursor: &mut Cursor<'_>,
     names: &Names,
 ) -> Result<(u8, Choice), NotRead>
-    ensures { IfOk result (λ s. ReadSource (meaning_of names.now) cursor.old cursor.new s.0 (choice_of s.1)) }
+    ensures { IfOk result
+        (λ s. ReadSource (meaning_of names.now) cursor.old cursor.new s.0 (choice_of s.1)) }
 {
     let raw = model_read::source(alloc, cursor)?;
     checked(names, &raw)
@@ -134,7 +144,10 @@ pub(crate) fn source(
 
 /// Reads a change that draws a value.
 fn draw(alloc: Global, cursor: &mut Cursor<'_>, names: &Names) -> Result<Change, NotRead>
-    ensures { IfOk result (λ c. ReadSure change_format (meaning_of names.now) (change_faults (meaning_of names.now)) numbering.change cursor.old cursor.new (change_of c)) }
+    ensures { IfOk result
+        (λ c. ReadSure change_format (meaning_of names.now)
+        (change_faults (meaning_of names.now)) numbering.change cursor.old cursor.new
+        (change_of c)) }
 {
     cursor.word(Word::Draw)?;
     let typed = target(alloc, cursor, names)?;
@@ -157,7 +170,10 @@ pub(crate) fn change(
     cursor: &mut Cursor<'_>,
     names: &Names,
 ) -> Result<Change, NotRead>
-    ensures { IfOk result (λ c. ReadSure change_format (meaning_of names.now) (change_faults (meaning_of names.now)) numbering.change cursor.old cursor.new (change_of c)) }
+    ensures { IfOk result
+        (λ c. ReadSure change_format (meaning_of names.now)
+        (change_faults (meaning_of names.now)) numbering.change cursor.old cursor.new
+        (change_of c)) }
 {
     if cursor.begins_word(Word::Set) {
         set(alloc, cursor, names)

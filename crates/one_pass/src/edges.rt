@@ -29,7 +29,11 @@ use std::alloc::Global;
 
 /// Reads a delay. The word `draw` decides its form.
 fn delay(alloc: Global, cursor: &mut Cursor<'_>, names: &Names) -> Result<Delay, NotRead>
-    ensures { (taken : List (List (Option KnownKind))) → IfOk result (λ w. ReadSure delay_format (meaning_of names.now) (delay_faults (meaning_of names.now) taken) numbering.delay cursor.old cursor.new (edge_delay_of w)) }
+    ensures { (taken : List (List (Option KnownKind)))
+        → IfOk result
+        (λ w. ReadSure delay_format (meaning_of names.now)
+        (delay_faults (meaning_of names.now) taken) numbering.delay cursor.old cursor.new
+        (edge_delay_of w)) }
 {
     if cursor.begins_word(Word::Draw) {
         cursor.word(Word::Draw)?;
@@ -42,7 +46,12 @@ fn delay(alloc: Global, cursor: &mut Cursor<'_>, names: &Names) -> Result<Delay,
 
 /// Reads the delay of an edge: 0 where none is written.
 fn after(alloc: Global, cursor: &mut Cursor<'_>, names: &Names) -> Result<Delay, NotRead>
-    ensures { (taken : List (List (Option KnownKind))) → IfOk result (λ w. ReadSure (maybe (reserved After *> delay_format)) (meaning_of names.now) (if_written (delay_faults (meaning_of names.now) taken)) (λ d. written_or (numbering.delay d) (Fixed (Number (pos 0)))) cursor.old cursor.new (edge_delay_of w)) }
+    ensures { (taken : List (List (Option KnownKind)))
+        → IfOk result
+        (λ w. ReadSure (maybe (reserved After *> delay_format)) (meaning_of names.now)
+        (if_written (delay_faults (meaning_of names.now) taken))
+        (λ d. written_or (numbering.delay d) (Fixed (Number (pos 0)))) cursor.old cursor.new
+        (edge_delay_of w)) }
 {
     if !cursor.begins_word(Word::After) {
         return Ok(Delay::Fixed(Expr::Int(0)));
@@ -65,7 +74,10 @@ fn within(raw: &RawNumber) -> Result<u8, NotRead>
 
 /// Reads the priority of an edge: 5 where none is written.
 fn priority(cursor: &mut Cursor<'_>) -> Result<u8, NotRead>
-    ensures { (means : List ℕ → Option Meaning) → IfOk result (λ p. ReadSure (maybe (reserved Priority *> any_number)) means (if_written priority_faults) (λ d. written_or natural 5) cursor.old cursor.new p) }
+    ensures { (means : List ℕ → Option Meaning)
+        → IfOk result
+        (λ p. ReadSure (maybe (reserved Priority *> any_number)) means (if_written priority_faults)
+        (λ d. written_or natural 5) cursor.old cursor.new p) }
 {
     if !cursor.begins_word(Word::Priority) {
         return Ok(5);
@@ -78,7 +90,11 @@ fn priority(cursor: &mut Cursor<'_>) -> Result<u8, NotRead>
 
 /// Reads the condition of an edge: true where none is written.
 fn condition(alloc: Global, cursor: &mut Cursor<'_>, names: &Names) -> Result<Expr, NotRead>
-    ensures { IfOk result (λ e. ReadSure (maybe when_format) (meaning_of names.now) (if_written (operand_faults (meaning_of names.now) (Some kinds.Truth))) (λ d. written_or (numbering.expression d) (Truth true)) cursor.old cursor.new (expression_of e)) }
+    ensures { IfOk result
+        (λ e. ReadSure (maybe when_format) (meaning_of names.now)
+        (if_written (operand_faults (meaning_of names.now) (Some kinds.Truth)))
+        (λ d. written_or (numbering.expression d) (Truth true)) cursor.old cursor.new
+        (expression_of e)) }
 {
     if !cursor.begins_word(Word::When) {
         return Ok(Expr::Truth(true));
@@ -95,7 +111,10 @@ fn schedule(
     names: &Names,
     taken: &[List<Option<Kind>>],
 ) -> Result<Edge, NotRead>
-    ensures { IfOk result (λ e. ReadSure schedule_format (meaning_of names.now) (edge_faults (meaning_of names.now) taken.now) numbering.edge cursor.old cursor.new (edge_of e)) }
+    ensures { IfOk result
+        (λ e. ReadSure schedule_format (meaning_of names.now)
+        (edge_faults (meaning_of names.now) taken.now) numbering.edge cursor.old cursor.new
+        (edge_of e)) }
 {
     cursor.word(Word::Schedule)?;
     let carried = carried(alloc, cursor, names, taken)?;
@@ -121,7 +140,10 @@ fn urgent(
     names: &Names,
     taken: &[List<Option<Kind>>],
 ) -> Result<Edge, NotRead>
-    ensures { IfOk result (λ e. ReadSure urgent_format (meaning_of names.now) (edge_faults (meaning_of names.now) taken.now) numbering.edge cursor.old cursor.new (edge_of e)) }
+    ensures { IfOk result
+        (λ e. ReadSure urgent_format (meaning_of names.now)
+        (edge_faults (meaning_of names.now) taken.now) numbering.edge cursor.old cursor.new
+        (edge_of e)) }
 {
     cursor.word(Word::Urgent)?;
     let carried = carried(alloc, cursor, names, taken)?;
@@ -142,8 +164,11 @@ fn checked(
     taken: &[List<Option<Kind>>],
     raw: &RawEdge,
 ) -> Result<Edge, NotRead>
-    ensures unbroken { OnOk result (edge_faults (meaning_of names.now) taken.now (written_edge raw.now) ≡ []) }
-    ensures numbers { IfOk result (λ e. NumberedAs (meaning_of names.now) (λ d. numbering.edge d (written_edge raw.now)) (edge_of e)) }
+    ensures unbroken { OnOk result
+        (edge_faults (meaning_of names.now) taken.now (written_edge raw.now) ≡ []) }
+    ensures numbers { IfOk result
+        (λ e. NumberedAs (meaning_of names.now) (λ d. numbering.edge d (written_edge raw.now))
+        (edge_of e)) }
 {
     let mut told = FirstFault::new();
     let edge = HeldValue::of(sig_types::edge(alloc, names, taken, raw, &mut told)?);
@@ -158,7 +183,10 @@ fn written_first(
     names: &Names,
     taken: &[List<Option<Kind>>],
 ) -> Result<Edge, NotRead>
-    ensures { IfOk result (λ e. ReadSure edge_format (meaning_of names.now) (edge_faults (meaning_of names.now) taken.now) numbering.edge cursor.old cursor.new (edge_of e)) }
+    ensures { IfOk result
+        (λ e. ReadSure edge_format (meaning_of names.now)
+        (edge_faults (meaning_of names.now) taken.now) numbering.edge cursor.old cursor.new
+        (edge_of e)) }
 {
     let raw = RawEdge::read(alloc, cursor)?;
     checked(alloc, names, taken, &raw)
@@ -171,7 +199,10 @@ pub(crate) fn edge(
     names: &Names,
     taken: &[List<Option<Kind>>],
 ) -> Result<Edge, NotRead>
-    ensures { IfOk result (λ e. ReadSure edge_format (meaning_of names.now) (edge_faults (meaning_of names.now) taken.now) numbering.edge cursor.old cursor.new (edge_of e)) }
+    ensures { IfOk result
+        (λ e. ReadSure edge_format (meaning_of names.now)
+        (edge_faults (meaning_of names.now) taken.now) numbering.edge cursor.old cursor.new
+        (edge_of e)) }
 {
     if cursor.begins_word(Word::Schedule) {
         schedule(alloc, cursor, names, taken)

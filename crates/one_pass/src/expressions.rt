@@ -94,9 +94,15 @@ pub(crate) fn known(
     is_array: bool,
     name: Spelling<'_>,
 ) -> Result<Typed<usize>, NotRead>
-    ensures unbroken { OnOk result (use_faults (meaning_of names.now) (variable_role is_array) (spelled_name name.entry) ≡ []) }
-    ensures numbers { IfOk result (λ v. NumberedAs (meaning_of names.now) (λ d. declared_place name.entry.bytes.now d.variables) v.part) }
-    ensures kind { IfOk result (λ v. v.kind ≡ kind_in_role (variable_role is_array) (meaning_of names.now name.entry.bytes.now)) }
+    ensures unbroken { OnOk result
+        (use_faults (meaning_of names.now) (variable_role is_array) (spelled_name name.entry)
+        ≡ []) }
+    ensures numbers { IfOk result
+        (λ v. NumberedAs (meaning_of names.now)
+        (λ d. declared_place name.entry.bytes.now d.variables) v.part) }
+    ensures kind { IfOk result
+        (λ v. v.kind
+        ≡ kind_in_role (variable_role is_array) (meaning_of names.now name.entry.bytes.now)) }
 {
     let mut told = FirstFault::new();
     let var = spelled_variable(names, is_array, name.bytes, name.at, &mut told);
@@ -113,7 +119,9 @@ pub(crate) fn expression(
     names: &Names,
     read: &mut Operand,
 ) -> Result<(), NotRead>
-    ensures { IfOk result (λ u. TakesOperand (meaning_of names.now) (language_reader expression_format) cursor.old cursor.new read.new) }
+    ensures { IfOk result
+        (λ u. TakesOperand (meaning_of names.now)
+        (language_reader expression_format) cursor.old cursor.new read.new) }
 {
     conditional(alloc, cursor, names, read)
 }
@@ -126,7 +134,9 @@ fn conditional(
     names: &Names,
     read: &mut Operand,
 ) -> Result<(), NotRead>
-    ensures { IfOk result (λ u. TakesOperand (meaning_of names.now) (language_reader whole_format) cursor.old cursor.new read.new) }
+    ensures { IfOk result
+        (λ u. TakesOperand (meaning_of names.now)
+        (language_reader whole_format) cursor.old cursor.new read.new) }
 {
     if cursor.begins_word(Word::If) {
         branches(alloc, cursor, names, read)
@@ -145,7 +155,9 @@ fn branches(
     names: &Names,
     read: &mut Operand,
 ) -> Result<(), NotRead>
-    ensures { IfOk result (λ u. TakesOperand (meaning_of names.now) (language_reader if_format) cursor.old cursor.new read.new) }
+    ensures { IfOk result
+        (λ u. TakesOperand (meaning_of names.now)
+        (language_reader if_format) cursor.old cursor.new read.new) }
 {
     cursor.word(Word::If)?;
     let mut test = Operand::unread();
@@ -173,7 +185,9 @@ fn operand_under(
     read: &mut Operand,
 ) -> Result<(), NotRead>
     requires { under ≤ 5 }
-    ensures { IfOk result (λ u. TakesOperand (meaning_of names.now) (language_reader (ByRule (operand_level under))) cursor.old cursor.new read.new) }
+    ensures { IfOk result
+        (λ u. TakesOperand (meaning_of names.now)
+        (language_reader (ByRule (operand_level under))) cursor.old cursor.new read.new) }
 {
     let is_negated = cursor.begins_negation(under);
     first_operand(alloc, cursor, names, is_negated, read)?;
@@ -190,7 +204,9 @@ fn first_operand(
     is_negated: bool,
     read: &mut Operand,
 ) -> Result<(), NotRead>
-    ensures { IfOk result (λ u. TakesOperand (meaning_of names.now) (first_operand is_negated) cursor.old cursor.new read.new) }
+    ensures { IfOk result
+        (λ u. TakesOperand (meaning_of names.now)
+        (first_operand is_negated) cursor.old cursor.new read.new) }
 {
     if is_negated {
         negated(alloc, cursor, names, read)
@@ -212,7 +228,9 @@ fn others(
     read: &mut Operand,
 ) -> Result<(), NotRead>
     requires { under ≤ 5 }
-    ensures reads { IfOk result (λ u. ClimbsFrom (meaning_of names.now) under least cursor.old cursor.new (expression_of read.old.expr) read.old.kind (expression_of read.new.expr) read.new.kind) }
+    ensures reads { IfOk result
+        (λ u. ClimbsFrom (meaning_of names.now) under least cursor.old cursor.new
+        (expression_of read.old.expr) read.old.kind (expression_of read.new.expr) read.new.kind) }
     ensures shorter { IfOk result (λ u. length cursor.new ≤ length cursor.old) }
 {
     match cursor.infix(least, under) {
@@ -234,7 +252,9 @@ fn operators(
 ) -> Result<(), NotRead>
     requires under { under ≤ 5 }
     requires below { first.level + 1 ≤ under }
-    ensures reads { IfOk result (λ u. ClimbsOn (meaning_of names.now) under (infix_of first) cursor.old cursor.new (expression_of read.old.expr) read.old.kind (expression_of read.new.expr) read.new.kind) }
+    ensures reads { IfOk result
+        (λ u. ClimbsOn (meaning_of names.now) under (infix_of first) cursor.old cursor.new
+        (expression_of read.old.expr) read.old.kind (expression_of read.new.expr) read.new.kind) }
     ensures shorter { IfOk result (λ u. length cursor.new ≤ length cursor.old) }
 {
     let mut taken = Some(first);
@@ -259,7 +279,9 @@ fn least_level_after(is_negated: bool) -> usize
 /// Joins a right operand to a left one, with an operator between them.
 #[inline(always)]
 fn join(alloc: Global, left: &mut Operand, op: Op, right: Operand) -> Result<(), NotRead>
-    ensures expr { IfOk result (λ u. expression_of left.new.expr ≡ Binary (operator_of op) (expression_of left.old.expr) (expression_of right.expr)) }
+    ensures expr { IfOk result
+        (λ u. expression_of left.new.expr
+        ≡ Binary (operator_of op) (expression_of left.old.expr) (expression_of right.expr)) }
     ensures kind { IfOk result (λ u. left.new.kind ≡ Some (kinds.result_kind (operator_of op))) }
 {
     let first = Box::new(alloc, left.take())?;
@@ -280,7 +302,9 @@ fn negated(
     names: &Names,
     read: &mut Operand,
 ) -> Result<(), NotRead>
-    ensures { IfOk result (λ u. TakesOperand (meaning_of names.now) (language_reader not_format) cursor.old cursor.new read.new) }
+    ensures { IfOk result
+        (λ u. TakesOperand (meaning_of names.now)
+        (language_reader not_format) cursor.old cursor.new read.new) }
 {
     cursor.word(Word::Not)?;
     operand_under(alloc, cursor, names, CONJUNCTIONS, read)?;
@@ -301,7 +325,9 @@ fn unary(
     names: &Names,
     read: &mut Operand,
 ) -> Result<(), NotRead>
-    ensures { IfOk result (λ u. TakesOperand (meaning_of names.now) (language_reader (ByRule Unary)) cursor.old cursor.new read.new) }
+    ensures { IfOk result
+        (λ u. TakesOperand (meaning_of names.now)
+        (language_reader (ByRule Unary)) cursor.old cursor.new read.new) }
 {
     signed(alloc, cursor, names, read)
 }
@@ -314,7 +340,9 @@ fn signed(
     names: &Names,
     read: &mut Operand,
 ) -> Result<(), NotRead>
-    ensures { IfOk result (λ u. TakesOperand (meaning_of names.now) (language_reader unary_format) cursor.old cursor.new read.new) }
+    ensures { IfOk result
+        (λ u. TakesOperand (meaning_of names.now)
+        (language_reader unary_format) cursor.old cursor.new read.new) }
 {
     if cursor.begins_symbol(Symbol::Minus) {
         negative(alloc, cursor, names, read)
@@ -332,7 +360,9 @@ fn negative(
     names: &Names,
     read: &mut Operand,
 ) -> Result<(), NotRead>
-    ensures { IfOk result (λ u. TakesOperand (meaning_of names.now) (language_reader negative_format) cursor.old cursor.new read.new) }
+    ensures { IfOk result
+        (λ u. TakesOperand (meaning_of names.now)
+        (language_reader negative_format) cursor.old cursor.new read.new) }
 {
     cursor.symbol(Symbol::Minus)?;
     unary(alloc, cursor, names, read)?;
@@ -353,7 +383,9 @@ pub(crate) fn bracketed(
     names: &Names,
     read: &mut Operand,
 ) -> Result<(), NotRead>
-    ensures taken { IfOk result (λ u. TakesOperand (meaning_of names.now) (language_reader index_format) cursor.old cursor.new read.new) }
+    ensures taken { IfOk result
+        (λ u. TakesOperand (meaning_of names.now)
+        (language_reader index_format) cursor.old cursor.new read.new) }
     ensures ranged { IfOk result (λ u. kinds.kinds_differ (Some Range) read.new.kind ≡ false) }
 {
     cursor.symbol(Symbol::OpenBracket)?;
@@ -374,7 +406,9 @@ fn called(
     op: Op,
     read: &mut Operand,
 ) -> Result<(), NotRead>
-    ensures { IfOk result (λ u. TakesOperand (meaning_of names.now) (language_reader (call_format word (operator_of op))) cursor.old cursor.new read.new) }
+    ensures { IfOk result
+        (λ u. TakesOperand (meaning_of names.now)
+        (language_reader (call_format word (operator_of op))) cursor.old cursor.new read.new) }
 {
     cursor.word(word)?;
     cursor.symbol(Symbol::OpenParenthesis)?;
@@ -398,7 +432,9 @@ fn named(
     names: &Names,
     read: &mut Operand,
 ) -> Result<(), NotRead>
-    ensures { IfOk result (λ u. TakesOperand (meaning_of names.now) (language_reader named_format) cursor.old cursor.new read.new) }
+    ensures { IfOk result
+        (λ u. TakesOperand (meaning_of names.now)
+        (language_reader named_format) cursor.old cursor.new read.new) }
 {
     let name = cursor.spelling()?;
     if !cursor.begins_symbol(Symbol::OpenBracket) {
@@ -428,7 +464,9 @@ fn enclosed(
     names: &Names,
     read: &mut Operand,
 ) -> Result<(), NotRead>
-    ensures { IfOk result (λ u. TakesOperand (meaning_of names.now) (language_reader in_parentheses_format) cursor.old cursor.new read.new) }
+    ensures { IfOk result
+        (λ u. TakesOperand (meaning_of names.now)
+        (language_reader in_parentheses_format) cursor.old cursor.new read.new) }
 {
     cursor.symbol(Symbol::OpenParenthesis)?;
     expression(alloc, cursor, names, read)?;
@@ -444,7 +482,9 @@ fn primary(
     names: &Names,
     read: &mut Operand,
 ) -> Result<(), NotRead>
-    ensures { IfOk result (λ u. TakesOperand (meaning_of names.now) (language_reader (ByRule Primary)) cursor.old cursor.new read.new) }
+    ensures { IfOk result
+        (λ u. TakesOperand (meaning_of names.now)
+        (language_reader (ByRule Primary)) cursor.old cursor.new read.new) }
 {
     undivided(alloc, cursor, names, read)
 }
@@ -457,7 +497,9 @@ fn undivided(
     names: &Names,
     read: &mut Operand,
 ) -> Result<(), NotRead>
-    ensures { IfOk result (λ u. TakesOperand (meaning_of names.now) (language_reader primary_format) cursor.old cursor.new read.new) }
+    ensures { IfOk result
+        (λ u. TakesOperand (meaning_of names.now)
+        (language_reader primary_format) cursor.old cursor.new read.new) }
 {
     if cursor.begins_name() {
         return named(alloc, cursor, names, read);

@@ -56,7 +56,9 @@ pub(crate) trait Part: Drop {
         names: &Names,
         taken: &[List<Option<Kind>>],
     ) -> Result<Self, NotRead>
-        ensures { IfOk result (λ part. ReadSure format (meaning_of names.now) (faults (meaning_of names.now) taken.now) number cursor.old cursor.new (plain part)) };
+        ensures { IfOk result
+            (λ part. ReadSure format (meaning_of names.now)
+            (faults (meaning_of names.now) taken.now) number cursor.old cursor.new (plain part)) };
 
     // It has a token at least.
     ghost some_tokens: { nullable format ≡ false };
@@ -72,7 +74,10 @@ pub(crate) fn take_all<T: Part>(
     names: &Names,
     taken: &[List<Option<Kind>>],
 ) -> Result<List<T>, NotRead>
-    ensures { IfOk result (λ parts. ReadParts T.format (meaning_of names.now) (T.faults (meaning_of names.now) taken.now) T.number cursor.old cursor.new (map T.plain parts)) }
+    ensures { IfOk result
+        (λ parts. ReadParts T.format (meaning_of names.now)
+        (T.faults (meaning_of names.now) taken.now) T.number cursor.old cursor.new
+        (map T.plain parts)) }
 {
     let room = if T::begins(cursor) { FIRST_ROOM } else { 0 };
     let mut parts = List::from_vec(Vec::with_capacity(alloc, room)?);

@@ -36,7 +36,10 @@ fn expected_vertices(
     names: &Names,
     expected: &[RawVertex],
 ) -> Result<List<Vertex>, NotRead>
-    ensures { IfOk result (λ vs. ReadVertices (meaning_of names.now) (map (kinds_taken (meaning_of names.now)) (map written_vertex expected.now)) (map written_vertex expected.now) cursor.old cursor.new (map vertex_of vs)) }
+    ensures { IfOk result
+        (λ vs. ReadVertices (meaning_of names.now)
+        (map (kinds_taken (meaning_of names.now)) (map written_vertex expected.now))
+        (map written_vertex expected.now) cursor.old cursor.new (map vertex_of vs)) }
 {
     let taken = taken(alloc, names, expected)?;
     vertices(alloc, cursor, names, taken.as_slice(), expected)
@@ -51,8 +54,10 @@ fn among_names(
     told: &mut FirstFault,
 ) -> Result<Model, NotRead>
     ensures { IfOk result (λ model. meaning_of names.now ≡ model_meaning (written_model begun)
-        → (start : Option StaticFault) → told.old ≡ earliest_fault start (faults_of_declared (written_model begun))
-        → ReadVerticesAfter (written_model begun) cursor.old cursor.new start told.new (graph_of model)) }
+        → (start : Option StaticFault)
+        → told.old ≡ earliest_fault start (faults_of_declared (written_model begun))
+        → ReadVerticesAfter (written_model begun) cursor.old cursor.new start told.new
+        (graph_of model)) }
 {
     let lists = check_lists(
         alloc,
@@ -79,7 +84,9 @@ fn behind(
     begun: RawModel,
     told: &mut FirstFault,
 ) -> Result<Model, NotRead>
-    ensures { IfOk result (λ model. ReadVerticesAfter (written_model begun) cursor.old cursor.new told.old told.new (graph_of model)) }
+    ensures { IfOk result
+        (λ model. ReadVerticesAfter (written_model begun) cursor.old cursor.new told.old told.new
+        (graph_of model)) }
 {
     let names = declared(alloc, &begun, told)?;
     among_names(alloc, cursor, &names, begun, told)
@@ -91,7 +98,9 @@ fn beginning(
     cursor: &mut Cursor<'_>,
     expected: List<RawVertex>,
 ) -> Result<RawModel, NotRead>
-    ensures { IfOk result (λ m. language_reader model_beginning cursor.old ≡ took (with_vertices (written_model m)) cursor.new) }
+    ensures { IfOk result
+        (λ m. language_reader model_beginning cursor.old
+        ≡ took (with_vertices (written_model m)) cursor.new) }
 {
     let begun = read_model_beginning(alloc, cursor)?;
     Ok(RawModel {

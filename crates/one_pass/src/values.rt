@@ -30,7 +30,10 @@ pub(crate) fn value(
     names: &Names,
     wanted: Option<Kind>,
 ) -> Result<Expr, NotRead>
-    ensures { IfOk result (λ e. ReadSure expression_format (meaning_of names.now) (operand_faults (meaning_of names.now) wanted) numbering.expression cursor.old cursor.new (expression_of e)) }
+    ensures { IfOk result
+        (λ e. ReadSure expression_format (meaning_of names.now)
+        (operand_faults (meaning_of names.now) wanted) numbering.expression cursor.old cursor.new
+        (expression_of e)) }
 {
     let mut operand = Operand::unread();
     expression(alloc, cursor, names, &mut operand)?;
@@ -45,7 +48,10 @@ fn next(
     names: &Names,
     wanted: Option<Kind>,
 ) -> Result<Expr, NotRead>
-    ensures { IfOk result (λ e. ReadSure (mark Comma *> expression_format) (meaning_of names.now) (operand_faults (meaning_of names.now) wanted) numbering.expression cursor.old cursor.new (expression_of e)) }
+    ensures { IfOk result
+        (λ e. ReadSure (mark Comma *> expression_format) (meaning_of names.now)
+        (operand_faults (meaning_of names.now) wanted) numbering.expression cursor.old cursor.new
+        (expression_of e)) }
 {
     cursor.symbol(Symbol::Comma)?;
     let value = value(alloc, cursor, names, wanted)?;
@@ -59,7 +65,11 @@ pub(crate) fn values(
     names: &Names,
     kinds: &[Option<Kind>],
 ) -> Result<List<Expr>, NotRead>
-    ensures { IfOk result (λ es. ReadSure (separated expression_format) (meaning_of names.now) (fitting_faults (meaning_of names.now) kinds.now) (λ d. each_numbered (numbering.expression d)) cursor.old cursor.new (map expression_of es)) }
+    ensures { IfOk result
+        (λ es. ReadSure (separated expression_format) (meaning_of names.now)
+        (fitting_faults (meaning_of names.now) kinds.now)
+        (λ d. each_numbered (numbering.expression d)) cursor.old cursor.new
+        (map expression_of es)) }
 {
     let mut all = List::from_vec(Vec::with_capacity(alloc, kinds.len())?);
     all.push(value(alloc, cursor, names, wanted_at(kinds, 0))?)?;

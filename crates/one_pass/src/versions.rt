@@ -14,7 +14,8 @@ use sig_base::CELLS_MAX;
 
 /// Whether all arrays together have no more cells than they may have.
 fn has_few_cells(vars: &[Var]) -> bool
-    ensures { result ≡ nat_le (sum_by (λ (v : Variable). v.size) (map variable_of vars.now)) cells_limit }
+    ensures { result
+        ≡ nat_le (sum_by (λ (v : Variable). v.size) (map variable_of vars.now)) cells_limit }
 {
     let mut left = CELLS_MAX;
     for var in vars {
@@ -42,8 +43,10 @@ fn fits_version(version: Option<RawNumber>, model: &Model) -> bool
 
 /// Gives up where a text that says this of its version can't write the model, or where its arrays have too many cells.
 pub(crate) fn refuse_version(version: Option<RawNumber>, model: &Model) -> Result<(), NotRead>
-    ensures fits { OnOk result (FitsVersion (option_map written_number version) (graph_of model.now)) }
-    ensures few { OnOk result (sum_by (λ (v : Variable). v.size) (graph_of model.now).variables ≤ cells_limit) }
+    ensures fits { OnOk result
+        (FitsVersion (option_map written_number version) (graph_of model.now)) }
+    ensures few { OnOk result
+        (sum_by (λ (v : Variable). v.size) (graph_of model.now).variables ≤ cells_limit) }
 {
     if has_few_cells(model.vars.as_slice()) && fits_version(version, model) {
         Ok(())

@@ -27,10 +27,16 @@ fn known_parameters(
     begun: &RawVertex,
     expected: &RawVertex,
 ) -> Result<List<usize>, NotRead>
-    ensures alike { OnOk result (BeginAlike (written_vertex begun.now) (written_vertex expected.now)) }
+    ensures alike { OnOk result
+        (BeginAlike (written_vertex begun.now) (written_vertex expected.now)) }
     ensures named { OnOk result (name_too_long (written_vertex begun.now).name ≡ []) }
-    ensures unbroken { OnOk result (parameters_faults (meaning_of names.now) [] (written_items (written_vertex begun.now).parameters) ≡ []) }
-    ensures numbers { IfOk result (λ ps. NumberedAs (meaning_of names.now) (λ d. each_numbered (numbered_parameter d) (written_items (written_vertex begun.now).parameters)) ps) }
+    ensures unbroken { OnOk result
+        (parameters_faults (meaning_of names.now) []
+        (written_items (written_vertex begun.now).parameters) ≡ []) }
+    ensures numbers { IfOk result
+        (λ ps. NumberedAs (meaning_of names.now)
+        (λ d. each_numbered (numbered_parameter d)
+        (written_items (written_vertex begun.now).parameters)) ps) }
 {
     if !begin_alike(begun, expected) {
         return Err(NotRead::Unsure);
@@ -56,7 +62,9 @@ fn body(
     names: &Names,
     taken: &[List<Option<Kind>>],
 ) -> Result<VertexBody, NotRead>
-    ensures { IfOk result (λ b. ReadBody (meaning_of names.now) taken.now cursor.old cursor.new (map change_of b.changes) (map edge_of b.edges)) }
+    ensures { IfOk result
+        (λ b. ReadBody (meaning_of names.now) taken.now cursor.old cursor.new
+        (map change_of b.changes) (map edge_of b.edges)) }
 {
     let changes = take_all(alloc, cursor, names, taken)?;
     let edges = take_all(alloc, cursor, names, taken)?;
@@ -82,7 +90,9 @@ fn vertex(
     taken: &[List<Option<Kind>>],
     expected: &RawVertex,
 ) -> Result<Vertex, NotRead>
-    ensures { IfOk result (λ v. ReadVertex (meaning_of names.now) taken.now (written_vertex expected.now) cursor.old cursor.new (vertex_of v)) }
+    ensures { IfOk result
+        (λ v. ReadVertex (meaning_of names.now) taken.now
+        (written_vertex expected.now) cursor.old cursor.new (vertex_of v)) }
 {
     let begun = read_vertex_beginning(alloc, cursor)?;
     let params = known_parameters(alloc, names, &begun, expected)?;
@@ -104,7 +114,9 @@ pub(crate) fn vertices(
     taken: &[List<Option<Kind>>],
     expected: &[RawVertex],
 ) -> Result<List<Vertex>, NotRead>
-    ensures { IfOk result (λ vs. ReadVertices (meaning_of names.now) taken.now (map written_vertex expected.now) cursor.old cursor.new (map vertex_of vs)) }
+    ensures { IfOk result
+        (λ vs. ReadVertices (meaning_of names.now) taken.now
+        (map written_vertex expected.now) cursor.old cursor.new (map vertex_of vs)) }
 {
     let mut vertices = Vec::with_capacity(alloc, expected.len())?;
     for begun in expected {

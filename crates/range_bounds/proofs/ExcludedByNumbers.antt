@@ -16,7 +16,7 @@ use Rattle.model_core.specs.Rules.BoundsOf.{bounds_of, refuted}
 use Rattle.model_core.specs.Rules.Exclusive.{same_expression, is_comparison, literal_number, Comparison, comparison_of, some_meets_both, is_negation_of, compare_apart, exclusive}
 use Rattle.model_core.specs.Rules.UrgentEdges.{is_urgent, each_pair, urgent_conditions}
 use Rattle.model_core.proofs.EachOne.{either_false}
-use Rattle.model_core.proofs.SameExpressions.{same_itself, same_told}
+use Rattle.model_core.proofs.SameExpressions.{same_itself, true-same_expression}
 use Rattle.range_bounds.specs.declared.alike.Compared.{Compared}
 use Rattle.range_bounds.specs.LiveEdges.{is_live, may_take_any_condition}
 use Rattle.range_bounds.specs.Inner.ComparedAlike.{live_conditions, comparison_with, compares_this, all_compare_this, never_both, AreCompared}
@@ -190,7 +190,7 @@ pub comparison_told : (op : Operator) (operand left number : Expression) (n : �
 comparison_told op operand left number n compares same is =
     ap (λ b. cond b (option_map (λ n. record { left = operand; operator = op; number = n }) (literal_number number)) None) compares
     ∙ ap (option_map (λ n. record { left = operand; operator = op; number = n })) is
-    ∙ ap (λ e. Some (record { left = e; operator = op; number = n })) (same_told operand left same)
+    ∙ ap (λ e. Some (record { left = e; operator = op; number = n })) (true-same_expression operand left same)
 
 -- such a number is that of the literal
 pub short_told : (o : Option ℤ) (n : ℤ) → Some n ≡ option_and_then (λ n. cond (fits n) (Some n) None) o → (o ≡ Some n) × (fits n ≡ true)

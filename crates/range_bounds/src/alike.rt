@@ -53,7 +53,8 @@ fn left_operand(expr: &Expr) -> Option<&Expr>
 
 /// What the first of these edges that is live compares with something, if it does.
 fn first_left<'e>(model: &Model, edges: &'e [Edge]) -> Option<&'e Expr>
-    ensures { option_map (λ e. expression_of e.now) result ≡ first_left (live_conditions (graph_of model.now) (map edge_of edges.now)) }
+    ensures { option_map (λ e. expression_of e.now) result
+        ≡ first_left (live_conditions (graph_of model.now) (map edge_of edges.now)) }
 {
     for edge in edges {
         if is_live(model, edge) {
@@ -72,8 +73,13 @@ fn short_literal(expr: &Expr) -> Option<i64>
 
 /// How `operand op number` compares this with a number, if it does.
 fn operands_compare(op: Op, operand: &Expr, number: &Expr, left: &Expr) -> Option<Compared>
-    ensures is { IfSome result (λ c. comparison_of (Binary (operator_of op) (expression_of operand.now) (expression_of number.now)) ≡ Some (comparison_with (expression_of left.now) c)) }
-    ensures found { is_some result ≡ compares_this (expression_of left.now) (Binary (operator_of op) (expression_of operand.now) (expression_of number.now)) }
+    ensures is { IfSome result
+        (λ c. comparison_of
+        (Binary (operator_of op) (expression_of operand.now) (expression_of number.now))
+        ≡ Some (comparison_with (expression_of left.now) c)) }
+    ensures found { is_some result
+        ≡ compares_this (expression_of left.now)
+        (Binary (operator_of op) (expression_of operand.now) (expression_of number.now)) }
 {
     if !is_comparison(op) || !is_same(operand, left) {
         return None;
@@ -84,8 +90,11 @@ fn operands_compare(op: Op, operand: &Expr, number: &Expr, left: &Expr) -> Optio
 
 /// How a condition compares this with a number, if it does.
 fn comparison(condition: &Expr, left: &Expr) -> Option<Compared>
-    ensures is { IfSome result (λ c. comparison_of (expression_of condition.now) ≡ Some (comparison_with (expression_of left.now) c)) }
-    ensures found { is_some result ≡ compares_this (expression_of left.now) (expression_of condition.now) }
+    ensures is { IfSome result
+        (λ c. comparison_of (expression_of condition.now)
+        ≡ Some (comparison_with (expression_of left.now) c)) }
+    ensures found { is_some result
+        ≡ compares_this (expression_of left.now) (expression_of condition.now) }
 {
     match condition {
         Expr::Binary(op, operand, number) => operands_compare(*op, operand, number, left),
@@ -99,8 +108,12 @@ fn comparisons_of(
     left: &Expr,
     edges: &[Edge],
 ) -> Option<ArrayVec<Compared, EDGES_MAX>>
-    ensures are { IfSome result (λ all. AreCompared (graph_of model.now) (expression_of left.now) (map edge_of edges.now) all.items) }
-    ensures found { is_some result ≡ all_compare_this (expression_of left.now) (live_conditions (graph_of model.now) (map edge_of edges.now)) }
+    ensures are { IfSome result
+        (λ all. AreCompared (graph_of model.now) (expression_of left.now)
+        (map edge_of edges.now) all.items) }
+    ensures found { is_some result
+        ≡ all_compare_this (expression_of left.now)
+        (live_conditions (graph_of model.now) (map edge_of edges.now)) }
 {
     let mut all = ArrayVec::new();
     for edge in edges {
@@ -115,8 +128,11 @@ fn comparisons_of(
 
 /// How the conditions of the live ones of these edges compare one and the same with numbers, if all do.
 pub(crate) fn compared_alike(model: &Model, edges: &[Edge]) -> Option<ArrayVec<Compared, EDGES_MAX>>
-    ensures are { IfSome result (λ all. (left : Expression) × AreCompared (graph_of model.now) left (map edge_of edges.now) all.items) }
-    ensures found { is_some result ≡ all_compare_alike (live_conditions (graph_of model.now) (map edge_of edges.now)) }
+    ensures are { IfSome result
+        (λ all. (left : Expression)
+        × AreCompared (graph_of model.now) left (map edge_of edges.now) all.items) }
+    ensures found { is_some result
+        ≡ all_compare_alike (live_conditions (graph_of model.now) (map edge_of edges.now)) }
 {
     comparisons_of(model, first_left(model, edges)?, edges)
 }

@@ -58,13 +58,17 @@ fn quiet_unless(a: &Bounds, needed: bool) -> bool
 }
 
 fn quiet_choice(c: &Bounds, a: &Bounds, b: &Bounds) -> bool
-    ensures { result ≡ ((c.now.quiet && (a.now.quiet || not c.now.can_true)) && (b.now.quiet || not c.now.can_false)) }
+    ensures { result
+        ≡ ((c.now.quiet && (a.now.quiet || not c.now.can_true))
+        && (b.now.quiet || not c.now.can_false)) }
 {
     c.quiet && quiet_unless(a, c.can_true) && quiet_unless(b, c.can_false)
 }
 
 fn taken_branch(c: &Bounds, a: &Bounds, b: &Bounds) -> Bounds
-    ensures { result ≡ cond (not c.now.can_false) a.now (cond (not c.now.can_true) b.now (either_bounds a.now b.now)) }
+    ensures { result
+        ≡ cond (not c.now.can_false) a.now
+        (cond (not c.now.can_true) b.now (either_bounds a.now b.now)) }
 {
     if !c.can_false {
         *a

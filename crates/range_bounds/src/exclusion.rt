@@ -72,7 +72,9 @@ fn both_meet(p: Op, m: i128, q: Op, n: i128, x: i128) -> bool
 
 fn this_or_next_meets(p: Op, m: i128, q: Op, n: i128, at: i128) -> bool
     requires { IsNear at }
-    ensures { result ≡ (both_meet (operator_of p) m (operator_of q) n at || both_meet (operator_of p) m (operator_of q) n (at +ℤ pos 1)) }
+    ensures { result
+        ≡ (both_meet (operator_of p) m (operator_of q) n at
+        || both_meet (operator_of p) m (operator_of q) n (at +ℤ pos 1)) }
 {
     both_meet(p, m, q, n, at) || both_meet(p, m, q, n, at + 1)
 }
@@ -89,14 +91,18 @@ fn one_beside_meets(p: Op, m: i128, q: Op, n: i128, at: i128) -> bool
 pub(crate) fn some_meets_both(p: Op, m: i128, q: Op, n: i128) -> bool
     requires first { IsNear m }
     requires second { IsNear n }
-    ensures { result ≡ (one_beside_meets (operator_of p) m (operator_of q) n m || one_beside_meets (operator_of p) m (operator_of q) n n) }
+    ensures { result
+        ≡ (one_beside_meets (operator_of p) m (operator_of q) n m
+        || one_beside_meets (operator_of p) m (operator_of q) n n) }
 {
     one_beside_meets(p, m, q, n, m) || one_beside_meets(p, m, q, n, n)
 }
 
 /// Whether `left p m` and `right q n` compare the same with numbers that no whole number meets both.
 fn operands_compare_apart(p: Op, left: &Expr, m: &Expr, q: Op, right: &Expr, n: &Expr) -> bool
-    ensures { result ≡ compare_apart (comparison_of (Binary (operator_of p) (expression_of left.now) (expression_of m.now)))
+    ensures { result
+        ≡ compare_apart
+        (comparison_of (Binary (operator_of p) (expression_of left.now) (expression_of m.now)))
         (comparison_of (Binary (operator_of q) (expression_of right.now) (expression_of n.now))) }
 {
     if !is_comparison(p) || !is_comparison(q) {
@@ -109,7 +115,9 @@ fn operands_compare_apart(p: Op, left: &Expr, m: &Expr, q: Op, right: &Expr, n: 
 }
 
 fn compare_apart(a: &Expr, b: &Expr) -> bool
-    ensures { result ≡ compare_apart (comparison_of (expression_of a.now)) (comparison_of (expression_of b.now)) }
+    ensures { result
+        ≡ compare_apart (comparison_of (expression_of a.now))
+        (comparison_of (expression_of b.now)) }
 {
     match (a, b) {
         (Expr::Binary(p, a, m), Expr::Binary(q, b, n)) => {

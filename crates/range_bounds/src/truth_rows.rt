@@ -33,7 +33,8 @@ pub(crate) fn at_most_bounds(a: &Bounds, b: &Bounds) -> Bounds
 }
 
 fn same_ends(a: &Bounds, b: &Bounds) -> bool
-    ensures { result ≡ (int_eq a.now.lo a.now.hi && int_eq a.now.hi b.now.lo && int_eq b.now.lo b.now.hi) }
+    ensures { result
+        ≡ (int_eq a.now.lo a.now.hi && int_eq a.now.hi b.now.lo && int_eq b.now.lo b.now.hi) }
 {
     a.lo == a.hi && a.hi == b.lo && b.lo == b.hi
 }

@@ -13,7 +13,7 @@ use Rattle.bound_laws.proofs.Soundness.Ends.{le_of, of_le}
 use Rattle.model_core.specs.declared.var_range.VarRange.{VarRange}
 use Rattle.model_core.specs.Ranges.OtherRanges.{declared_range}
 use Rattle.model_core.specs.Ranges.Inductive.{is_fixed, Encloses, FitsVariable}
-use Rattle.model_core.proofs.SameExpressions.{number_told}
+use Rattle.model_core.proofs.SameExpressions.{true-int_eq}
 use Rattle.range_infer.specs.Inner.RangeTests.{range_fits, encloses_kept}
 
 module _ (g : EventGraph) (v : ℕ) (r : VarRange) where
@@ -21,7 +21,7 @@ module _ (g : EventGraph) (v : ℕ) (r : VarRange) where
   w = variable_at g v
 
   stays_told : (fixed : Bool) → (not fixed || int_eq r.lo w.lo && int_eq r.hi w.hi) ≡ true → fixed ≡ true → r ≡ declared_range w
-  stays_told true e is = ap₂ (λ (x y : ℤ). record { lo = x; hi = y }) (number_told r.lo w.lo (and_first (int_eq r.lo w.lo) _ e)) (number_told r.hi w.hi (and_second (int_eq r.lo w.lo) _ e))
+  stays_told true e is = ap₂ (λ (x y : ℤ). record { lo = x; hi = y }) (true-int_eq r.lo w.lo (and_first (int_eq r.lo w.lo) _ e)) (true-int_eq r.hi w.hi (and_second (int_eq r.lo w.lo) _ e))
   stays_told false e is = cc
 
   pub fits_told : range_fits (is_fixed g v) w r ≡ true → FitsVariable g v r

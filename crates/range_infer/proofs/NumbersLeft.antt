@@ -12,7 +12,7 @@ use Rattle.bound_laws.proofs.Soundness.Ends.{le_of, lt_of, of_not_lt, of_not_le}
 use Rattle.model_core.specs.declared.var_range.VarRange.{VarRange}
 use Rattle.model_core.specs.Ranges.OtherRanges.{LiesIn}
 use Rattle.model_core.specs.Ranges.Refined.{numbers_left, opposite_comparison}
-use Rattle.model_core.proofs.SameExpressions.{number_told}
+use Rattle.model_core.proofs.SameExpressions.{true-int_eq}
 
 pub number_of-injective : (a b : Bool) → number_of a ≡ number_of b → a ≡ b
 number_of-injective true true e = refl
@@ -50,7 +50,7 @@ at_least_left : (n x : ℤ) (r : VarRange) → LiesIn r x → int_lt x n ≡ fal
 at_least_left n x r i e = record { low = omega (arith, ints, clamps, of_not_lt x n e, i.low); high = i.high }
 
 equal_left : (n x : ℤ) (r : VarRange) → LiesIn r x → int_eq x n ≡ true → LiesIn (numbers_left Equal n r) x
-equal_left n x r i e = let same : x ≡ n = number_told x n e in record { low = omega (arith, ints, clamps, i.low); high = omega (arith, ints, clamps, i.high) }
+equal_left n x r i e = let same : x ≡ n = true-int_eq x n e in record { low = omega (arith, ints, clamps, i.low); high = omega (arith, ints, clamps, i.high) }
 
 not_equal_left : (n x : ℤ) (r : VarRange) → LiesIn r x → int_eq x n ≡ false → LiesIn (numbers_left NotEqual n r) x
 not_equal_left n x r i e = record { low = moved_low _ n r.lo x refl e i.low; high = moved_high _ n r.hi x refl e i.high }

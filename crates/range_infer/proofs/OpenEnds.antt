@@ -15,7 +15,7 @@ use Rattle.range_infer.proofs.NarrowModels.{fits_everywhere}
 use Rattle.range_infer.proofs.NumbersLeft.{of_eq}
 use Rattle.range_infer.proofs.OneRound.{Growing, all-holds, all-inside, variable_given, variables_given}
 use Rattle.std.specs.List.{fold}
-use Rattle.model_core.proofs.SameExpressions.{number_told}
+use Rattle.model_core.proofs.SameExpressions.{true-int_eq}
 
 -- 0 where an end is the declared one, and else 1
 abbrev pub open_end : ℤ → ℤ → ℕ
@@ -47,14 +47,14 @@ closed d x e = ap (λ (b : Bool). cond b 0 1) (of_eq x d e)
 no_more : (jumps : Bool) (d x y : ℤ) → EndMoves jumps d x y → open_end d y ≤ open_end d x
 no_more jumps d x y m = by (int_eq x d) refl where
   by : (b : Bool) → int_eq x d ≡ b → open_end d y ≤ cond b 0 1
-  by true e = let none = closed d y (m.stays (number_told x d e)) in omega (arith, none)
+  by true e = let none = closed d y (m.stays (true-int_eq x d e)) in omega (arith, none)
   by false e = at_most_one d y
 
 same_or_fewer : (jumps : Bool) (d x y : ℤ) → EndMoves jumps d x y → jumps ≡ true → (y ≡ x) ⊎ (open_end d y < open_end d x)
 same_or_fewer jumps d x y m jump = by (int_eq x d) refl (m.lands jump) where
   by : (b : Bool) → int_eq x d ≡ b → (y ≡ x) ⊎ (y ≡ d) → (y ≡ x) ⊎ (open_end d y < cond b 0 1)
   by b e (inl same) = inl same
-  by true e (inr there) = inl (there ∙ sym (number_told x d e))
+  by true e (inr there) = inl (there ∙ sym (true-int_eq x d e))
   by false e (inr there) = let none = closed d y there in inr (omega (arith, none))
 
 pub record RangeMoves (jumps : Bool) (v : Variable) (r s : VarRange) : Type 0 where

@@ -7,11 +7,11 @@ use Rattle.model_core.specs.declared.model.Kind.TheVariants as kinds
 use Rattle.model_core.specs.EventGraph.{EventGraph, EventEdge, Uniform, ByTable, Delay, Fixed, Drawn, EdgeKind, Schedule, Urgent, CancelNext, CancelEqual, CancelAll, Expression, is_scheduling}
 use Rattle.model_core.specs.Run.State.{State, Place, scalar, in_range}
 use Rattle.model_core.specs.Run.Value.{OrFault, ◌>>=◌, number_of, is_one, each, value_of}
-use Rattle.model_core.specs.Run.Pending.{Entry, is_of, is_with, without_next, without_all}
+use Rattle.model_core.specs.Run.Pending.{Entry, is_of, is_event_with, without_next, without_all}
 use Rattle.model_core.specs.Run.Edges.{EdgeState, Waiting, delay_ticks, delay_of, scheduled, carried_values, act, treat_edge}
 use Rattle.model_core.specs.Run.Step.{vertex_at}
 use Rattle.model_core.specs.Static.HasKind.{HasKind}
-use Rattle.model_core.specs.Static.OwnRules.{CarriesValues, TakeCarried, KeepsParts, parameters_of}
+use Rattle.model_core.specs.Static.OwnRules.{CarriesValues, CarriedFitKinds, KeepsParts, parameters_of}
 use Rattle.model_core.specs.Rules.BoundsOf.{bounds_under}
 use Rattle.model_core.specs.Rules.BoundsHold.{NumberIn}
 use Rattle.model_core.proofs.Results.{bind_ok}
@@ -57,7 +57,7 @@ module _ (g : EventGraph) (ranges : List VarRange) (fitting : Fitting g ranges) 
       ap (λ (value : Expression → OrFault ℤ). each value e.values >>= λ values. Ok (record p { pending = scheduled clk 0 e.target p.pending values })) (λ i x. same_value g ranges s clk x i)
   same_act seed s clk e CancelNext p = refl
   same_act seed s clk e CancelEqual p =
-      ap (λ (value : Expression → OrFault ℤ). each value e.values >>= λ values. Ok (record p { pending = without_next (is_with e.target values) p.pending })) (λ i x. same_value g ranges s clk x i)
+      ap (λ (value : Expression → OrFault ℤ). each value e.values >>= λ values. Ok (record p { pending = without_next (is_event_with e.target values) p.pending })) (λ i x. same_value g ranges s clk x i)
   same_act seed s clk e CancelAll p = refl
 
   pub same_edge : (seed : ℕ) (s : State) (clk : ℕ) (e : EventEdge) (p : EdgeState) → treat_edge g seed s clk e p ≡ treat_edge h seed s clk e p
@@ -92,7 +92,7 @@ module _ (g : EventGraph) (ranges : List VarRange) (fitting : Fitting g ranges) 
       values_between x k y is done =
           between h truths s inside clk early x k (refined e.condition true h.variables) y (has_kind g.variables ranges x k is) (left_alike h truths s inside clk early e.condition) (left_within h truths s inside clk early e.condition condition_kind taken_too) (sym (same_value g ranges s clk x) ∙ done)
 
-      carried_fits : (parameters : List ℕ) (values : List ℤ) → TakeCarried g.variables (length g.tables) (parameters_of g) parameters e.values → is_scheduling e.kind ≡ true → each (value_of g s clk) e.values ≡ Ok values → CarriedFits e.target values
+      carried_fits : (parameters : List ℕ) (values : List ℤ) → CarriedFitKinds g.variables (length g.tables) (parameters_of g) parameters e.values → is_scheduling e.kind ≡ true → each (value_of g s clk) e.values ≡ Ok values → CarriedFits e.target values
       carried_fits parameters values carries is done =
           let into = taken_into e is (can_be_true h truths s inside clk early e.condition condition_kind taken_too) in
           let takes = subst (AllByRecursion (HoldsIncoming g ranges)) into known.takes in
@@ -103,13 +103,13 @@ module _ (g : EventGraph) (ranges : List VarRange) (fitting : Fitting g ranges) 
       act_fits seed (Schedule delay priority) p q is fits done =
           let (wait, at_delay, later) = bind_ok (delay_of g seed s clk delay p.taken) _ q done in
           let (values, at_values, end) = bind_ok (carried_values g s clk e) _ q later in
-          let carries : TakeCarried g.variables (length g.tables) (parameters_of g) known.keeps.parameters e.values = subst (λ (k : EdgeKind). CarriesValues g.variables (length g.tables) (parameters_of g) k known.keeps.parameters e.values) is known.keeps.carries in
+          let carries : CarriedFitKinds g.variables (length g.tables) (parameters_of g) known.keeps.parameters e.values = subst (λ (k : EdgeKind). CarriesValues g.variables (length g.tables) (parameters_of g) k known.keeps.parameters e.values) is known.keeps.carries in
           let new = carried_fits known.keeps.parameters values carries (ap is_scheduling is) at_values in
           let same : scheduled (clk + wait.ticks) priority e.target p.pending values ≡ q.pending = cc in
           subst (AllByRecursion EntryFits) same (every-append EntryFits p.pending (record { time = clk + wait.ticks; priority = priority; vertex = e.target; values = values }) fits new)
       act_fits seed Urgent p q is fits done =
           let (values, at_values, end) = bind_ok (carried_values g s clk e) _ q done in
-          let carries : TakeCarried g.variables (length g.tables) (parameters_of g) known.keeps.parameters e.values = subst (λ (k : EdgeKind). CarriesValues g.variables (length g.tables) (parameters_of g) k known.keeps.parameters e.values) is known.keeps.carries in
+          let carries : CarriedFitKinds g.variables (length g.tables) (parameters_of g) known.keeps.parameters e.values = subst (λ (k : EdgeKind). CarriesValues g.variables (length g.tables) (parameters_of g) k known.keeps.parameters e.values) is known.keeps.carries in
           let new = carried_fits known.keeps.parameters values carries (ap is_scheduling is) at_values in
           let same : scheduled clk 0 e.target p.pending values ≡ q.pending = cc in
           subst (AllByRecursion EntryFits) same (every-append EntryFits p.pending (record { time = clk; priority = 0; vertex = e.target; values = values }) fits new)
@@ -118,8 +118,8 @@ module _ (g : EventGraph) (ranges : List VarRange) (fitting : Fitting g ranges) 
           subst (AllByRecursion EntryFits) same (without_next-every EntryFits (is_of e.target) p.pending fits)
       act_fits seed CancelEqual p q is fits done =
           let (values, at_values, end) = bind_ok (carried_values g s clk e) _ q done in
-          let same : without_next (is_with e.target values) p.pending ≡ q.pending = cc in
-          subst (AllByRecursion EntryFits) same (without_next-every EntryFits (is_with e.target values) p.pending fits)
+          let same : without_next (is_event_with e.target values) p.pending ≡ q.pending = cc in
+          subst (AllByRecursion EntryFits) same (without_next-every EntryFits (is_event_with e.target values) p.pending fits)
       act_fits seed CancelAll p q is fits done =
           let same : without_all (is_of e.target) p.pending ≡ q.pending = cc in
           subst (AllByRecursion EntryFits) same (without_all-every EntryFits (is_of e.target) p.pending fits)

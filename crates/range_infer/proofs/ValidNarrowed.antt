@@ -12,7 +12,7 @@ use Rattle.model_core.specs.Text.Lexing.{same_bytes}
 use Rattle.model_core.specs.Text.Canonical.{canonical}
 use Rattle.model_core.specs.Text.Spellable.{Extent, extent, IsSigned, HasWrittenRange, SpellableVariable, SpellableVertex, SpellableWatched, IsSpellable}
 use Rattle.model_core.specs.Static.HasKind.{IsVariable, HasKind}
-use Rattle.model_core.specs.Static.OwnRules.{IsLiteral, FitsKind, KeepsVariable, TakesKind, IsParameter, TakeCarried, KeepsSource, KeepsChange, CarriesValues, KeepsDelay, KeepsTiming, KeepsEdge, KeepsVertex, IsWatchable, watch_number, parameters_of, KeepsParts, KeepsStaticRules}
+use Rattle.model_core.specs.Static.OwnRules.{IsLiteral, FitsKind, KeepsVariable, IsLocationOfKind, IsParameter, CarriedFitKinds, KeepsSource, KeepsChange, CarriesValues, KeepsDelay, KeepsTiming, KeepsEdge, KeepsVertex, IsWatchable, watch_number, parameters_of, KeepsParts, KeepsStaticRules}
 use Rattle.model_core.proofs.EachOne.{every-map, every-both}
 use Rattle.model_core.specs.declared.var_range.VarRange.{VarRange}
 use Rattle.model_core.specs.Ranges.OtherRanges.{LiesIn, declared_range, with_range, with_ranges, model_with_ranges, range_at}
@@ -91,9 +91,9 @@ module _ (vs : List Variable) (rs : List VarRange) (tables : ℕ) (takes : List 
   abbrev ws : List Variable
   ws = with_ranges vs rs
 
-  takes_kind : (l : Location) (k : Kind) → TakesKind vs tables takes l k → TakesKind ws tables takes l k
+  takes_kind : (l : Location) (k : Kind) → IsLocationOfKind vs tables takes l k → IsLocationOfKind ws tables takes l k
   takes_kind l k t = by l.variable l.index t where
-    by : (v : ℕ) (i : Option Expression) → TakesKind vs tables takes (record { variable = v; index = i }) k → TakesKind ws tables takes (record { variable = v; index = i }) k
+    by : (v : ℕ) (i : Option Expression) → IsLocationOfKind vs tables takes (record { variable = v; index = i }) k → IsLocationOfKind ws tables takes (record { variable = v; index = i }) k
     by v None t = is_variable vs rs v false k t
     by v (Some i) t = (is_variable vs rs v true k t.0, has_kind vs rs i kinds.Range t.1)
 
@@ -105,10 +105,10 @@ module _ (vs : List Variable) (rs : List VarRange) (tables : ℕ) (takes : List 
   source_keeps stream (ByTable t) k = k
 
   change_keeps : (c : StateChange) → KeepsChange vs tables takes c → KeepsChange ws tables takes c
-  change_keeps (Set targets values) k = (k.0, record { kinds = k.1.kinds; taken = zip-map (TakesKind vs tables takes) (TakesKind ws tables takes) takes_kind targets k.1.kinds k.1.taken; given = given values k.1.kinds k.1.given })
+  change_keeps (Set targets values) k = (k.0, record { kinds = k.1.kinds; taken = zip-map (IsLocationOfKind vs tables takes) (IsLocationOfKind ws tables takes) takes_kind targets k.1.kinds k.1.taken; given = given values k.1.kinds k.1.given })
   change_keeps (Draw target stream choice) k = (takes_kind target kinds.Range k.0, source_keeps stream choice k.1)
 
-  carried : (parameters : List ℕ) (values : List Expression) → TakeCarried vs tables takes parameters values → TakeCarried ws tables takes parameters values
+  carried : (parameters : List ℕ) (values : List Expression) → CarriedFitKinds vs tables takes parameters values → CarriedFitKinds ws tables takes parameters values
   carried parameters values t = record { kinds = t.kinds; taken = zip-map (λ v k. IsVariable vs v false k) (λ v k. IsVariable ws v false k) (λ v k. is_variable vs rs v false k) parameters t.kinds t.taken; given = given values t.kinds t.given }
 
   carries : (kind : EdgeKind) (parameters : List ℕ) (values : List Expression) → CarriesValues vs tables takes kind parameters values → CarriesValues ws tables takes kind parameters values

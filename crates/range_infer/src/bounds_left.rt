@@ -51,21 +51,25 @@ fn size_at(model: &Model, var: usize) -> usize
 }
 
 fn lies_inside(index: &Bounds, size: usize) -> bool
-    ensures { result ≡ (index.now.quiet && int_le (pos 0) index.now.lo && int_lt index.now.hi (pos size)) }
+    ensures { result
+        ≡ (index.now.quiet && int_le (pos 0) index.now.lo && int_lt index.now.hi (pos size)) }
 {
     index.quiet && 0 <= index.lo && (index.hi as i128) < size as i128
 }
 
 /// Whether an index of these bounds into the array at this place never faults, under any ranges.
 pub(crate) fn quiet_index(model: &Model, var: usize, index: &Bounds) -> bool
-    ensures { (ranges : List VarRange) → result ≡ quiet_index (ranged_at (with_ranges (graph_of model.now).variables ranges) var) index.now }
+    ensures { (ranges : List VarRange)
+        → result ≡ quiet_index
+        (ranged_at (with_ranges (graph_of model.now).variables ranges) var) index.now }
 {
     lies_inside(index, size_at(model, var))
 }
 
 /// Whether the value of this operator's left operand changes nothing about the ranges under which the right one is evaluated.
 fn stays_beside(op: Op) -> bool
-    ensures { result ≡ true → (first : Expression) (ranges : List Variable) → beside refined (operator_of op) first ranges ≡ ranges }
+    ensures { result ≡ true → (first : Expression) (ranges : List Variable)
+        → beside refined (operator_of op) first ranges ≡ ranges }
 {
     !matches!(op, Op::And | Op::Or)
 }
@@ -74,7 +78,8 @@ fn stays_beside(op: Op) -> bool
 #[cycle(bounds_left)]
 #[inline(always)]
 fn operand_left(left: &mut RangesLeft, expr: &Expr) -> Result<Bounds, NoMemory>
-    ensures bounds { IfOk result (λ b. b ≡ bounds_under refined (variables_left left.old) (expression_of expr.now)) }
+    ensures bounds { IfOk result
+        (λ b. b ≡ bounds_under refined (variables_left left.old) (expression_of expr.now)) }
     ensures left { OnOk result (StaysLeft left.old left.new) }
 {
     match expr {
@@ -87,8 +92,11 @@ fn operand_left(left: &mut RangesLeft, expr: &Expr) -> Result<Bounds, NoMemory>
 /// The bounds of the left operand of this operator. What is left where the right one is evaluated stays.
 #[cycle(bounds_left)]
 fn bounds_beside(left: &mut RangesLeft, op: Op, first: &Expr) -> Result<Bounds, NoMemory>
-    ensures bounds { IfOk result (λ b. b ≡ bounds_under refined (variables_left left.old) (expression_of first.now)) }
-    ensures left { OnOk result (variables_left left.new ≡ beside refined (operator_of op) (expression_of first.now) (variables_left left.old)) }
+    ensures bounds { IfOk result
+        (λ b. b ≡ bounds_under refined (variables_left left.old) (expression_of first.now)) }
+    ensures left { OnOk result
+        (variables_left left.new
+        ≡ beside refined (operator_of op) (expression_of first.now) (variables_left left.old)) }
     ensures back { OnOk result (RestoresTo left.old left.new) }
 {
     match guard_of(op) {
@@ -101,8 +109,11 @@ fn bounds_beside(left: &mut RangesLeft, op: Op, first: &Expr) -> Result<Bounds, 
 #[cycle(bounds_left)]
 #[inline(always)]
 fn last_bounds(left: &mut RangesLeft, expr: &Expr, replaced: usize) -> Result<Bounds, NoMemory>
-    ensures bounds { IfOk result (λ b. b ≡ bounds_under refined (variables_left left.old) (expression_of expr.now)) }
-    ensures left { OnOk result ((old : RangesLeft) → replaced ≡ length old.replaced.items → RestoresTo old left.old → StaysLeft old left.new) }
+    ensures bounds { IfOk result
+        (λ b. b ≡ bounds_under refined (variables_left left.old) (expression_of expr.now)) }
+    ensures left { OnOk result
+        ((old : RangesLeft) → replaced ≡ length old.replaced.items → RestoresTo old left.old
+        → StaysLeft old left.new) }
 {
     let bounds = operand_left(left, expr)?;
     restore_ranges(left, replaced);
@@ -114,7 +125,8 @@ fn last_bounds(left: &mut RangesLeft, expr: &Expr, replaced: usize) -> Result<Bo
 // go through memory but those of operands.
 #[cycle(bounds_left)]
 pub(crate) fn bounds_left(left: &mut RangesLeft, expr: &Expr) -> Result<Bounds, NoMemory>
-    ensures bounds { IfOk result (λ b. b ≡ bounds_under refined (variables_left left.old) (expression_of expr.now)) }
+    ensures bounds { IfOk result
+        (λ b. b ≡ bounds_under refined (variables_left left.old) (expression_of expr.now)) }
     ensures left { OnOk result (StaysLeft left.old left.new) }
 {
     if let Expr::Binary(op, first, second) = expr {
@@ -132,7 +144,8 @@ pub(crate) fn bounds_left(left: &mut RangesLeft, expr: &Expr) -> Result<Bounds, 
 #[cycle(bounds_left)]
 #[inline(never)]
 fn any_bounds_left(left: &mut RangesLeft, expr: &Expr) -> Result<Bounds, NoMemory>
-    ensures bounds { IfOk result (λ b. b ≡ bounds_under refined (variables_left left.old) (expression_of expr.now)) }
+    ensures bounds { IfOk result
+        (λ b. b ≡ bounds_under refined (variables_left left.old) (expression_of expr.now)) }
     ensures left { OnOk result (StaysLeft left.old left.new) }
 {
     match expr {
@@ -178,8 +191,11 @@ pub(crate) fn bounds_where(
     expr: &Expr,
     value: bool,
 ) -> Result<Bounds, NoMemory>
-    ensures bounds { IfOk result (λ b. b ≡ bounds_under refined (variables_left left.old) (expression_of expr.now)) }
-    ensures left { OnOk result (variables_left left.new ≡ refined (expression_of expr.now) value (variables_left left.old)) }
+    ensures bounds { IfOk result
+        (λ b. b ≡ bounds_under refined (variables_left left.old) (expression_of expr.now)) }
+    ensures left { OnOk result
+        (variables_left left.new
+        ≡ refined (expression_of expr.now) value (variables_left left.old)) }
     ensures back { OnOk result (RestoresTo left.old left.new) }
 {
     if let Expr::Binary(op, first, second) = expr {

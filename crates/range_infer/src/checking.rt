@@ -23,8 +23,11 @@ use std::alloc::Global;
 fn first_wrong_start(model: &Model, ranges: &[VarRange]) -> usize
     requires many { length ranges.now ≡ length model.now.vars }
     ensures within { result ≤ length model.now.vars }
-    ensures before { (w : ℕ) → w < result → LiesIn (range_at ranges.now w) (variable_at (graph_of model.now) w).initial }
-    ensures wrong { result < length model.now.vars → LiesIn (range_at ranges.now result) (variable_at (graph_of model.now) result).initial → ⊥ }
+    ensures before { (w : ℕ) → w < result
+        → LiesIn (range_at ranges.now w) (variable_at (graph_of model.now) w).initial }
+    ensures wrong { result < length model.now.vars
+        → LiesIn (range_at ranges.now result) (variable_at (graph_of model.now) result).initial
+        → ⊥ }
 {
     let vars = model.vars.as_slice();
     for (place, var) in vars.iter().enumerate() {
@@ -49,7 +52,9 @@ fn encloses_kept(range: VarRange, kept: Option<VarRange>) -> bool
 fn holds_incoming(model: &Model, ranges: &[VarRange], taken: &Incoming) -> bool
     requires many { length ranges.now ≡ length model.now.vars }
     requires there { taken.now.variable < length model.now.vars }
-    ensures { result ≡ encloses_kept (range_at ranges.now taken.now.variable) (kept_range (variable_at (graph_of model.now) taken.now.variable) taken.now.bounds) }
+    ensures { result
+        ≡ encloses_kept (range_at ranges.now taken.now.variable)
+        (kept_range (variable_at (graph_of model.now) taken.now.variable) taken.now.bounds) }
 {
     let var = &model.vars.as_slice()[taken.variable];
     encloses_kept(ranges[taken.variable], kept_range(var, &taken.bounds))

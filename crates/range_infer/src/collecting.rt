@@ -40,7 +40,11 @@ fn add_value(
     place: usize,
 ) -> Result<(), NoMemory>
     requires reads { reads.now ≡ each_reads (map expression_of values.now) }
-    ensures out { OnOk result (out.new.items ≡ out.old.items ++ assigned_seen look.now.all look.now.moved.now (variables_left left.old) (variable ∷ []) (drop place (map expression_of values.now))) }
+    ensures out { OnOk result
+        (out.new.items
+        ≡ out.old.items
+        ++ assigned_seen look.now.all look.now.moved.now (variables_left left.old) (variable ∷ [])
+        (drop place (map expression_of values.now))) }
     ensures left { OnOk result (StaysLeft left.old left.new) }
 {
     if place < values.len() {
@@ -65,7 +69,12 @@ fn add_targets(
     reads: &[ValueReads],
 ) -> Result<(), NoMemory>
     requires reads { reads.now ≡ each_reads (map expression_of values.now) }
-    ensures out { OnOk result (out.new.items ≡ out.old.items ++ assigned_seen look.now.all look.now.moved.now (variables_left left.old) (map (λ (l : Location). l.variable) (map location_of targets.now)) (map expression_of values.now)) }
+    ensures out { OnOk result
+        (out.new.items
+        ≡ out.old.items
+        ++ assigned_seen look.now.all look.now.moved.now (variables_left left.old)
+        (map (λ (l : Location). l.variable) (map location_of targets.now))
+        (map expression_of values.now)) }
     ensures left { OnOk result (StaysLeft left.old left.new) }
 {
     if !looks_at_one(look, reads) {
@@ -87,7 +96,11 @@ fn add_parameters(
     reads: &[ValueReads],
 ) -> Result<(), NoMemory>
     requires reads { reads.now ≡ each_reads (map expression_of values.now) }
-    ensures out { OnOk result (out.new.items ≡ out.old.items ++ assigned_seen look.now.all look.now.moved.now (variables_left left.old) params.now (map expression_of values.now)) }
+    ensures out { OnOk result
+        (out.new.items
+        ≡ out.old.items
+        ++ assigned_seen look.now.all look.now.moved.now (variables_left left.old) params.now
+        (map expression_of values.now)) }
     ensures left { OnOk result (StaysLeft left.old left.new) }
 {
     for (place, param) in params.iter().enumerate() {
@@ -105,7 +118,11 @@ fn add_change(
     reads: &[ValueReads],
 ) -> Result<(), NoMemory>
     requires reads { reads.now ≡ set_reads (change_of change.now) }
-    ensures out { OnOk result (out.new.items ≡ out.old.items ++ change_seen (graph_of left.old.model.now) look.now.all look.now.moved.now (variables_left left.old) (change_of change.now)) }
+    ensures out { OnOk result
+        (out.new.items
+        ≡ out.old.items
+        ++ change_seen (graph_of left.old.model.now) look.now.all look.now.moved.now
+        (variables_left left.old) (change_of change.now)) }
     ensures left { OnOk result (StaysLeft left.old left.new) }
 {
     match change {
@@ -137,8 +154,15 @@ fn add_carried(
     reads: &[ValueReads],
 ) -> Result<(), NoMemory>
     requires reads { reads.now ≡ each_reads (map expression_of edge.now.values) }
-    ensures out { OnOk result (out.new.items ≡ out.old.items ++ cond (bounds_under refined (variables_left left.old) (expression_of edge.now.condition)).can_true
-        (assigned_seen look.now.all look.now.moved.now (refined (expression_of edge.now.condition) true (variables_left left.old)) (vertex_at (graph_of left.old.model.now) edge.now.target).parameters (map expression_of edge.now.values)) []) }
+    ensures out { OnOk result
+        (out.new.items
+        ≡ out.old.items
+        ++ cond (bounds_under refined (variables_left left.old)
+        (expression_of edge.now.condition)).can_true
+        (assigned_seen look.now.all look.now.moved.now
+        (refined (expression_of edge.now.condition) true (variables_left left.old))
+        (vertex_at (graph_of left.old.model.now) edge.now.target).parameters
+        (map expression_of edge.now.values)) []) }
     ensures left { OnOk result (StaysLeft left.old left.new) }
 {
     let replaced = left.replaced.len();
@@ -160,7 +184,11 @@ fn add_edge(
     reads: &EdgeReads,
 ) -> Result<(), NoMemory>
     requires reads { reads.now ≡ carried_reads (edge_of edge.now) }
-    ensures out { OnOk result (out.new.items ≡ out.old.items ++ edge_seen (graph_of left.old.model.now) look.now.all look.now.moved.now (variables_left left.old) (edge_of edge.now)) }
+    ensures out { OnOk result
+        (out.new.items
+        ≡ out.old.items
+        ++ edge_seen (graph_of left.old.model.now) look.now.all look.now.moved.now
+        (variables_left left.old) (edge_of edge.now)) }
     ensures left { OnOk result (StaysLeft left.old left.new) }
 {
     if edge.form.is_scheduling() {
@@ -184,7 +212,11 @@ fn add_changes(
     reads: &[List<ValueReads>],
 ) -> Result<(), NoMemory>
     requires reads { reads.now ≡ map set_reads (map change_of changes.now) }
-    ensures out { OnOk result (out.new.items ≡ out.old.items ++ flat_map (change_seen (graph_of left.old.model.now) look.now.all look.now.moved.now (variables_left left.old)) (map change_of changes.now)) }
+    ensures out { OnOk result
+        (out.new.items
+        ≡ out.old.items
+        ++ flat_map (change_seen (graph_of left.old.model.now) look.now.all look.now.moved.now
+        (variables_left left.old)) (map change_of changes.now)) }
     ensures left { OnOk result (StaysLeft left.old left.new) }
 {
     for place in 0..changes.len() {
@@ -201,7 +233,11 @@ fn add_edges(
     reads: &[EdgeReads],
 ) -> Result<(), NoMemory>
     requires reads { reads.now ≡ map carried_reads (map edge_of edges.now) }
-    ensures out { OnOk result (out.new.items ≡ out.old.items ++ flat_map (edge_seen (graph_of left.old.model.now) look.now.all look.now.moved.now (variables_left left.old)) (map edge_of edges.now)) }
+    ensures out { OnOk result
+        (out.new.items
+        ≡ out.old.items
+        ++ flat_map (edge_seen (graph_of left.old.model.now) look.now.all look.now.moved.now
+        (variables_left left.old)) (map edge_of edges.now)) }
     ensures left { OnOk result (StaysLeft left.old left.new) }
 {
     for place in 0..edges.len() {
@@ -218,7 +254,11 @@ fn add_vertex(
     reads: &VertexReads,
 ) -> Result<(), NoMemory>
     requires reads { reads.now ≡ parts_read (vertex_of vertex.now) }
-    ensures out { OnOk result (out.new.items ≡ out.old.items ++ vertex_seen (graph_of left.old.model.now) look.now.all look.now.moved.now (variables_left left.old) (vertex_of vertex.now)) }
+    ensures out { OnOk result
+        (out.new.items
+        ≡ out.old.items
+        ++ vertex_seen (graph_of left.old.model.now) look.now.all look.now.moved.now
+        (variables_left left.old) (vertex_of vertex.now)) }
     ensures left { OnOk result (StaysLeft left.old left.new) }
 {
     let changes = vertex.changes.as_slice();
@@ -235,7 +275,11 @@ fn add_vertices(
     reads: &[VertexReads],
 ) -> Result<(), NoMemory>
     requires reads { reads.now ≡ map parts_read (map vertex_of vertices.now) }
-    ensures out { OnOk result (out.new.items ≡ out.old.items ++ flat_map (vertex_seen (graph_of left.old.model.now) look.now.all look.now.moved.now (variables_left left.old)) (map vertex_of vertices.now)) }
+    ensures out { OnOk result
+        (out.new.items
+        ≡ out.old.items
+        ++ flat_map (vertex_seen (graph_of left.old.model.now) look.now.all look.now.moved.now
+        (variables_left left.old)) (map vertex_of vertices.now)) }
     ensures left { OnOk result (StaysLeft left.old left.new) }
 {
     for place in 0..vertices.len() {
@@ -254,7 +298,11 @@ fn add_change_at(
     place: usize,
 ) -> Result<(), NoMemory>
     requires reads { reads.now ≡ map set_reads (map change_of changes.now) }
-    ensures out { OnOk result (out.new.items ≡ out.old.items ++ flat_map (change_seen (graph_of left.old.model.now) look.now.all look.now.moved.now (variables_left left.old)) (one_at place (map change_of changes.now))) }
+    ensures out { OnOk result
+        (out.new.items
+        ≡ out.old.items
+        ++ flat_map (change_seen (graph_of left.old.model.now) look.now.all look.now.moved.now
+        (variables_left left.old)) (one_at place (map change_of changes.now))) }
     ensures left { OnOk result (StaysLeft left.old left.new) }
 {
     if place < changes.len() {
@@ -273,7 +321,11 @@ fn add_edge_at(
     place: usize,
 ) -> Result<(), NoMemory>
     requires reads { reads.now ≡ map carried_reads (map edge_of edges.now) }
-    ensures out { OnOk result (out.new.items ≡ out.old.items ++ flat_map (edge_seen (graph_of left.old.model.now) look.now.all look.now.moved.now (variables_left left.old)) (one_at place (map edge_of edges.now))) }
+    ensures out { OnOk result
+        (out.new.items
+        ≡ out.old.items
+        ++ flat_map (edge_seen (graph_of left.old.model.now) look.now.all look.now.moved.now
+        (variables_left left.old)) (one_at place (map edge_of edges.now))) }
     ensures left { OnOk result (StaysLeft left.old left.new) }
 {
     if place < edges.len() {
@@ -291,7 +343,11 @@ fn add_vertex_part(
     part: PartPlace,
 ) -> Result<(), NoMemory>
     requires reads { reads.now ≡ parts_read (vertex_of vertex.now) }
-    ensures out { OnOk result (out.new.items ≡ out.old.items ++ vertex_part_seen (graph_of left.old.model.now) look.now.all look.now.moved.now (variables_left left.old) part (vertex_of vertex.now)) }
+    ensures out { OnOk result
+        (out.new.items
+        ≡ out.old.items
+        ++ vertex_part_seen (graph_of left.old.model.now) look.now.all look.now.moved.now
+        (variables_left left.old) part (vertex_of vertex.now)) }
     ensures left { OnOk result (StaysLeft left.old left.new) }
 {
     if part.is_edge {
@@ -313,7 +369,11 @@ fn add_part(
     part: PartPlace,
 ) -> Result<(), NoMemory>
     requires reads { reads.now ≡ map parts_read (map vertex_of vertices.now) }
-    ensures out { OnOk result (out.new.items ≡ out.old.items ++ part_seen (graph_of left.old.model.now) look.now.all look.now.moved.now (variables_left left.old) (map vertex_of vertices.now) part) }
+    ensures out { OnOk result
+        (out.new.items
+        ≡ out.old.items
+        ++ part_seen (graph_of left.old.model.now) look.now.all look.now.moved.now
+        (variables_left left.old) (map vertex_of vertices.now) part) }
     ensures left { OnOk result (StaysLeft left.old left.new) }
 {
     let place = part.vertex;
@@ -332,7 +392,11 @@ fn add_parts(
     parts: &[PartPlace],
 ) -> Result<(), NoMemory>
     requires reads { reads.now ≡ map parts_read (map vertex_of vertices.now) }
-    ensures out { OnOk result (out.new.items ≡ out.old.items ++ flat_map (part_seen (graph_of left.old.model.now) look.now.all look.now.moved.now (variables_left left.old) (map vertex_of vertices.now)) parts.now) }
+    ensures out { OnOk result
+        (out.new.items
+        ≡ out.old.items
+        ++ flat_map (part_seen (graph_of left.old.model.now) look.now.all look.now.moved.now
+        (variables_left left.old) (map vertex_of vertices.now)) parts.now) }
     ensures left { OnOk result (StaysLeft left.old left.new) }
 {
     for part in parts {
@@ -349,7 +413,8 @@ fn all_left<'m>(
 ) -> Result<RangesLeft<'m>, NoMemory>
     requires many { length ranges.now ≡ length model.now.vars }
     ensures model { IfOk result (λ left. left.model.now ≡ model.now) }
-    ensures variables { IfOk result (λ left. variables_left left ≡ with_ranges (graph_of model.now).variables ranges.now) }
+    ensures variables { IfOk result
+        (λ left. variables_left left ≡ with_ranges (graph_of model.now).variables ranges.now) }
 {
     Ok(RangesLeft {
         model,
@@ -368,7 +433,9 @@ fn incoming_seen(
 ) -> Result<Vec<Incoming>, NoMemory>
     requires many { length ranges.now ≡ length model.now.vars }
     requires reads { reads.now ≡ map parts_read (map vertex_of model.now.vertices) }
-    ensures { IfOk result (λ takes. takes.items ≡ incoming_seen (graph_of model.now) look.now.all look.now.moved.now ranges.now) }
+    ensures { IfOk result
+        (λ takes. takes.items
+        ≡ incoming_seen (graph_of model.now) look.now.all look.now.moved.now ranges.now) }
 {
     let mut left = all_left(alloc, model, ranges)?;
     let mut out = Vec::new(alloc);
@@ -388,7 +455,11 @@ fn taken_by(
 ) -> Result<Vec<Incoming>, NoMemory>
     requires many { length ranges.now ≡ length model.now.vars }
     requires reads { reads.now ≡ map parts_read (map vertex_of model.now.vertices) }
-    ensures { IfOk result (λ takes. takes.items ≡ flat_map (part_seen (graph_of model.now) look.now.all look.now.moved.now (with_ranges (graph_of model.now).variables ranges.now) (graph_of model.now).vertices) parts.now) }
+    ensures { IfOk result
+        (λ takes. takes.items
+        ≡ flat_map (part_seen (graph_of model.now) look.now.all look.now.moved.now
+        (with_ranges (graph_of model.now).variables ranges.now)
+        (graph_of model.now).vertices) parts.now) }
 {
     let mut left = all_left(alloc, model, ranges)?;
     let mut out = Vec::new(alloc);

@@ -27,22 +27,32 @@ use round_trip::validity_is_by_parts;
 /// In every state within ranges that fit a model, and at each clock up to 2^48, each value that an expression gives lies in
 /// its bounds under these ranges, between their ends too, and an expression that is quiet under them has no fault.
 pub fn values_lie_in_bounds_under_ranges()
-    ensures inside { (g : EventGraph) (ranges : List VarRange) (s : State) (clk : ℕ) (e : Expression) (k : Kind) (x : ℤ)
-        → AllByRecursion KeepsVariable g.variables → Fitting g ranges → IsTrue (in_range (model_with_ranges g ranges) s) → clk ≤ 2 ^ 48
+    ensures inside { (g : EventGraph) (ranges : List VarRange) (s : State) (clk : ℕ)
+        (e : Expression) (k : Kind) (x : ℤ)
+        → AllByRecursion KeepsVariable g.variables → Fitting g ranges
+        → IsTrue (in_range (model_with_ranges g ranges) s) → clk ≤ 2 ^ 48
         → HasKind g.variables e k → value_of g s clk e ≡ Ok x → IsIn k (bounds_in g ranges e) x }
-    ensures between { (g : EventGraph) (ranges : List VarRange) (s : State) (clk : ℕ) (e : Expression) (k : Kind) (x : ℤ)
-        → AllByRecursion KeepsVariable g.variables → Fitting g ranges → IsTrue (in_range (model_with_ranges g ranges) s) → clk ≤ 2 ^ 48
+    ensures between { (g : EventGraph) (ranges : List VarRange) (s : State) (clk : ℕ)
+        (e : Expression) (k : Kind) (x : ℤ)
+        → AllByRecursion KeepsVariable g.variables → Fitting g ranges
+        → IsTrue (in_range (model_with_ranges g ranges) s) → clk ≤ 2 ^ 48
         → HasKind g.variables e k → value_of g s clk e ≡ Ok x → NumberIn (bounds_in g ranges e) x }
-    ensures no_fault { (g : EventGraph) (ranges : List VarRange) (s : State) (clk : ℕ) (e : Expression) (k : Kind)
-        → AllByRecursion KeepsVariable g.variables → Fitting g ranges → IsTrue (in_range (model_with_ranges g ranges) s) → clk ≤ 2 ^ 48
-        → HasKind g.variables e k → (bounds_in g ranges e).quiet ≡ true → (x : ℤ) × (value_of g s clk e ≡ Ok x) }
+    ensures no_fault { (g : EventGraph) (ranges : List VarRange) (s : State) (clk : ℕ)
+        (e : Expression) (k : Kind)
+        → AllByRecursion KeepsVariable g.variables → Fitting g ranges
+        → IsTrue (in_range (model_with_ranges g ranges) s) → clk ≤ 2 ^ 48
+        → HasKind g.variables e k → (bounds_in g ranges e).quiet ≡ true
+        → (x : ℤ) × (value_of g s clk e ≡ Ok x) }
 {}
 
 /// A valid model with inductive ranges declared means the same, and is valid where its text isn't too long.
 pub fn narrowing_keeps_the_meaning()
-    ensures valid { (g : EventGraph) (ranges : List VarRange) → IsValid g → Fitting g ranges → Inductive g ranges
-        → length (canonical (model_with_ranges g ranges)) ≤ TEXT_MAX → IsValid (model_with_ranges g ranges) }
-    ensures same { (g : EventGraph) (ranges : List VarRange) → IsValid g → Fitting g ranges → Inductive g ranges
+    ensures valid { (g : EventGraph) (ranges : List VarRange) → IsValid g → Fitting g ranges
+        → Inductive g ranges
+        → length (canonical (model_with_ranges g ranges)) ≤ TEXT_MAX
+        → IsValid (model_with_ranges g ranges) }
+    ensures same { (g : EventGraph) (ranges : List VarRange) → IsValid g → Fitting g ranges
+        → Inductive g ranges
         → Same g (model_with_ranges g ranges) }
 {
     validity_is_by_parts();
@@ -53,8 +63,10 @@ pub fn narrowing_keeps_the_meaning()
 pub fn rounds_end_with_inductive_ranges()
     ensures end { (g : EventGraph) → IsValid g → (ranges : List VarRange) × IsInferred g ranges }
     ensures one { (g : EventGraph) (a b : List VarRange) → IsInferred g a → IsInferred g b → a ≡ b }
-    ensures fitting { (g : EventGraph) (ranges : List VarRange) → IsValid g → IsInferred g ranges → Fitting g ranges }
-    ensures inductive { (g : EventGraph) (ranges : List VarRange) → IsValid g → IsInferred g ranges → Inductive g ranges }
+    ensures fitting { (g : EventGraph) (ranges : List VarRange) → IsValid g → IsInferred g ranges
+        → Fitting g ranges }
+    ensures inductive { (g : EventGraph) (ranges : List VarRange) → IsValid g → IsInferred g ranges
+        → Inductive g ranges }
 {
     validity_is_by_parts();
 }
@@ -62,10 +74,14 @@ pub fn rounds_end_with_inductive_ranges()
 /// Of the numbers of a range those for which a comparison holds all lie in what is left of it, which is the least such
 /// range; where none is left, its lower end is above its upper one.
 pub fn what_is_left_is_the_least()
-    ensures all { (op : Operator) (n x : ℤ) (r : VarRange) → LiesIn r x → compares op x n ≡ true → LiesIn (numbers_left op n r) x }
-    ensures least { (op : Operator) (n : ℤ) (r s : VarRange) → is_comparison op ≡ true → (numbers_left op n r).lo ≤ℤ (numbers_left op n r).hi
-        → ((x : ℤ) → LiesIn r x → compares op x n ≡ true → LiesIn s x) → Encloses s (numbers_left op n r) }
-    ensures none { (op : Operator) (n x : ℤ) (r : VarRange) → is_comparison op ≡ true → (numbers_left op n r).hi <ℤ (numbers_left op n r).lo
+    ensures all { (op : Operator) (n x : ℤ) (r : VarRange) → LiesIn r x → compares op x n ≡ true
+        → LiesIn (numbers_left op n r) x }
+    ensures least { (op : Operator) (n : ℤ) (r s : VarRange) → is_comparison op ≡ true
+        → (numbers_left op n r).lo ≤ℤ (numbers_left op n r).hi
+        → ((x : ℤ) → LiesIn r x → compares op x n ≡ true → LiesIn s x)
+        → Encloses s (numbers_left op n r) }
+    ensures none { (op : Operator) (n x : ℤ) (r : VarRange) → is_comparison op ≡ true
+        → (numbers_left op n r).hi <ℤ (numbers_left op n r).lo
         → LiesIn r x → compares op x n ≡ true → ⊥ }
 {}
 

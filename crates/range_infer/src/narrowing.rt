@@ -28,7 +28,8 @@ fn declare(var: &mut Var, range: VarRange)
 
 fn declare_all(vars: &mut Vec<Var>, ranges: &[VarRange])
     requires { length ranges.now ≡ length vars.old.items }
-    ensures { map variable_of vars.new.items ≡ with_ranges (map variable_of vars.old.items) ranges.now }
+    ensures { map variable_of vars.new.items
+        ≡ with_ranges (map variable_of vars.old.items) ranges.now }
 {
     for place in 0..ranges.len() {
         declare(&mut vars[place], ranges[place]);
@@ -61,8 +62,12 @@ fn redeclare_if_short(
     ranges: &[VarRange],
 ) -> Result<bool, NoMemory>
     requires { length ranges.now ≡ length model.old.vars }
-    ensures value { IfOk result (λ declared. declared ≡ nat_le (length (canonical (model_with_ranges (graph_of model.old) ranges.now))) TEXT_MAX) }
-    ensures model { OnOk result (graph_of model.new ≡ with_ranges_if_short (graph_of model.old) ranges.now) }
+    ensures value { IfOk result
+        (λ declared. declared
+        ≡ nat_le (length
+        (canonical (model_with_ranges (graph_of model.old) ranges.now))) TEXT_MAX) }
+    ensures model { OnOk result
+        (graph_of model.new ≡ with_ranges_if_short (graph_of model.old) ranges.now) }
     ensures unchanged { OnErr result (graph_of model.new ≡ graph_of model.old) }
 {
     let old = declared_ranges(alloc, model.vars.as_slice())?;
@@ -77,7 +82,9 @@ fn redeclare_if_short(
 /// Declares ranges that fit a model and that no run leaves. The model then means the same. Refused with 1 if they don't fit,
 /// with 2 if a run might leave them, and with 3 if the text would be too long; the model is then as it was.
 pub fn narrow(alloc: Global, model: &mut Model, ranges: &List<VarRange>) -> Result<(), RuleError>
-    ensures done { OnOk result (MayNarrow (graph_of model.old) ranges.now × (graph_of model.new ≡ model_with_ranges (graph_of model.old) ranges.now)) }
+    ensures done { OnOk result
+        (MayNarrow (graph_of model.old) ranges.now
+        × (graph_of model.new ≡ model_with_ranges (graph_of model.old) ranges.now)) }
     ensures refused { IfErr result (NarrowRefused (graph_of model.old) ranges.now) }
     ensures unchanged { OnErr result (graph_of model.new ≡ graph_of model.old) }
 {

@@ -100,7 +100,8 @@ fn unless_empty(range: VarRange, ends: Ends) -> VarRange
 /// The range of a variable where a comparison of it with `n` holds.
 pub(crate) fn where_holds(op: Op, n: i128, var: &Var, range: VarRange) -> VarRange
     requires { IsNear n }
-    ensures { with_range (variable_of var.now) result ≡ where_holds (operator_of op) (Some n) (with_range (variable_of var.now) range) }
+    ensures { with_range (variable_of var.now) result
+        ≡ where_holds (operator_of op) (Some n) (with_range (variable_of var.now) range) }
 {
     if is_number_scalar(var) {
         unless_empty(range, numbers_left(op, n, range))

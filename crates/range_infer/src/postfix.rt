@@ -77,7 +77,8 @@ fn add_number(
     negative: bool,
     number: Option<i64>,
 ) -> Result<(), NoMemory>
-    ensures { OnOk result (items.new.items ≡ items.old.items ++ number_items op var negative number) }
+    ensures { OnOk result
+        (items.new.items ≡ items.old.items ++ number_items op var negative number) }
 {
     if let Some(n) = number {
         items.push(PostfixItem::Left(op, var, negative, n))?;
@@ -92,7 +93,8 @@ fn add_literal(
     var: usize,
     expr: &Expr,
 ) -> Result<(), NoMemory>
-    ensures { OnOk result (items.new.items ≡ items.old.items ++ literal_items op var (expression_of expr.now)) }
+    ensures { OnOk result
+        (items.new.items ≡ items.old.items ++ literal_items op var (expression_of expr.now)) }
 {
     if let Expr::Neg(a) = expr {
         add_number(items, op, var, true, number_in(a))
@@ -109,7 +111,11 @@ fn add_compared(
     second: &Expr,
     value: bool,
 ) -> Result<(), NoMemory>
-    ensures { OnOk result (items.new.items ≡ items.old.items ++ compared_items (operator_of op) (expression_of first.now) (expression_of second.now) value) }
+    ensures { OnOk result
+        (items.new.items
+        ≡ items.old.items
+        ++ compared_items (operator_of op) (expression_of first.now)
+        (expression_of second.now) value) }
 {
     if let Expr::Scalar(var) = first {
         add_literal(items, comparison_where(op, value), *var, second)?;
@@ -119,7 +125,8 @@ fn add_compared(
 
 /// Adds what is left where an expression has this value.
 fn add_left(items: &mut Vec<PostfixItem>, expr: &Expr, value: bool) -> Result<(), NoMemory>
-    ensures { OnOk result (items.new.items ≡ items.old.items ++ left_items (expression_of expr.now) value) }
+    ensures { OnOk result
+        (items.new.items ≡ items.old.items ++ left_items (expression_of expr.now) value) }
 {
     match expr {
         Expr::Not(a) => add_left(items, a, !value),
@@ -144,7 +151,10 @@ fn add_left_by(
     second: &Expr,
     value: Option<bool>,
 ) -> Result<(), NoMemory>
-    ensures { OnOk result (items.new.items ≡ items.old.items ++ left_by (operator_of op) (expression_of first.now) (expression_of second.now) value) }
+    ensures { OnOk result
+        (items.new.items
+        ≡ items.old.items
+        ++ left_by (operator_of op) (expression_of first.now) (expression_of second.now) value) }
 {
     match value {
         None => Ok(()),
@@ -198,7 +208,9 @@ fn add_operand(
     value: Option<bool>,
     item: PostfixItem,
 ) -> Result<(), NoMemory>
-    ensures { OnOk result (items.new.items ≡ items.old.items ++ (postfix_of (expression_of expr.now) value ++ item ∷ [])) }
+    ensures { OnOk result
+        (items.new.items
+        ≡ items.old.items ++ (postfix_of (expression_of expr.now) value ++ item ∷ [])) }
 {
     add_postfix(items, expr, value)?;
     add_item(items, item)
@@ -207,7 +219,11 @@ fn add_operand(
 /// Adds the right operand of an operator, and the operator.
 #[cycle(add_postfix)]
 fn add_right(items: &mut Vec<PostfixItem>, op: Op, expr: &Expr) -> Result<(), NoMemory>
-    ensures { OnOk result (items.new.items ≡ items.old.items ++ with_right (operator_of op) (expression_of expr.now) (postfix_of (expression_of expr.now) None)) }
+    ensures { OnOk result
+        (items.new.items
+        ≡ items.old.items
+        ++ with_right (operator_of op) (expression_of expr.now)
+        (postfix_of (expression_of expr.now) None)) }
 {
     if let Expr::Scalar(var) = expr {
         add_item(items, PostfixItem::Beside(op, *var))
@@ -224,7 +240,8 @@ fn add_postfix(
     expr: &Expr,
     value: Option<bool>,
 ) -> Result<(), NoMemory>
-    ensures { OnOk result (items.new.items ≡ items.old.items ++ postfix_of (expression_of expr.now) value) }
+    ensures { OnOk result
+        (items.new.items ≡ items.old.items ++ postfix_of (expression_of expr.now) value) }
 {
     match expr {
         Expr::Int(n) => add_item(items, PostfixItem::Number(*n)),

@@ -25,7 +25,8 @@ use sig_base::NoMemory;
 /// Keeps the bounds of the operand before this one. Gives those of this one.
 #[inline(always)]
 fn behind(before: &mut Vec<Bounds>, last: Bounds, next: Bounds) -> Result<Bounds, NoMemory>
-    ensures { IfOk result (λ b. b ∷ reverse before.new.items ≡ next ∷ last ∷ reverse before.old.items) }
+    ensures { IfOk result
+        (λ b. b ∷ reverse before.new.items ≡ next ∷ last ∷ reverse before.old.items) }
 {
     before.push(last)?;
     Ok(next)
@@ -64,7 +65,9 @@ fn after_item(
     last: Bounds,
     item: PostfixItem,
 ) -> Result<Bounds, NoMemory>
-    ensures { IfOk result (λ b. b ∷ reverse before.new.items ≡ after_item (variables_left left.now) (last ∷ reverse before.old.items) item) }
+    ensures { IfOk result
+        (λ b. b ∷ reverse before.new.items
+        ≡ after_item (variables_left left.now) (last ∷ reverse before.old.items) item) }
 {
     match item {
         PostfixItem::Beside(op, var) => {
@@ -97,7 +100,8 @@ fn signed_number(negative: bool, n: i64) -> i128
 
 /// Puts the ranges back that were kept last, if any were.
 fn put_back(left: &mut RangesLeft, kept: &mut Vec<usize>)
-    ensures { (first : RangesLeft) (w : Walk) → LeftOnWalk first left.old (reverse kept.old.items) w → LeftOnWalk first left.new (reverse kept.new.items) (walked w PostfixItem.PutBack) }
+    ensures { (first : RangesLeft) (w : Walk) → LeftOnWalk first left.old (reverse kept.old.items) w
+        → LeftOnWalk first left.new (reverse kept.new.items) (walked w PostfixItem.PutBack) }
 {
     if let Some(count) = kept.pop() {
         restore_ranges(left, count);
@@ -110,7 +114,10 @@ fn ranges_after(
     kept: &mut Vec<usize>,
     item: PostfixItem,
 ) -> Result<(), NoMemory>
-    ensures { OnOk result ((first : RangesLeft) (w : Walk) → is_of_ranges item ≡ true → LeftOnWalk first left.old (reverse kept.old.items) w → LeftOnWalk first left.new (reverse kept.new.items) (walked w item)) }
+    ensures { OnOk result
+        ((first : RangesLeft) (w : Walk) → is_of_ranges item ≡ true
+        → LeftOnWalk first left.old (reverse kept.old.items) w
+        → LeftOnWalk first left.new (reverse kept.new.items) (walked w item)) }
 {
     match item {
         PostfixItem::Kept => kept.push(left.replaced.len())?,
@@ -137,7 +144,9 @@ fn walk_over(
     items: &[PostfixItem],
 ) -> Result<Bounds, NoMemory>
     requires { kept.old.items ≡ [] }
-    ensures found { IfOk result (λ b. (e : Expression) → items.now ≡ postfix_of e None → b ≡ bounds_under refined (variables_left left.old) e) }
+    ensures found { IfOk result
+        (λ b. (e : Expression) → items.now ≡ postfix_of e None
+        → b ≡ bounds_under refined (variables_left left.old) e) }
     ensures back { OnOk result (RestoresTo left.old left.new) }
 {
     let mut last = number_bounds(0, 0, true);
@@ -153,7 +162,9 @@ fn walk_over(
 
 /// The bounds of the value of which this is the postfix form, under the ranges that are left.
 fn bounds_of_items(left: &mut RangesLeft, items: &[PostfixItem]) -> Result<Bounds, NoMemory>
-    ensures bounds { IfOk result (λ b. (e : Expression) → items.now ≡ postfix_of e None → b ≡ bounds_under refined (variables_left left.old) e) }
+    ensures bounds { IfOk result
+        (λ b. (e : Expression) → items.now ≡ postfix_of e None
+        → b ≡ bounds_under refined (variables_left left.old) e) }
     ensures left { OnOk result (StaysLeft left.old left.new) }
 {
     let replaced = left.replaced.len();
@@ -171,7 +182,8 @@ pub(crate) fn value_bounds(
     items: &[PostfixItem],
 ) -> Result<Bounds, NoMemory>
     requires { items.now ≡ long_postfix (expression_of value.now) }
-    ensures bounds { IfOk result (λ b. b ≡ bounds_under refined (variables_left left.old) (expression_of value.now)) }
+    ensures bounds { IfOk result
+        (λ b. b ≡ bounds_under refined (variables_left left.old) (expression_of value.now)) }
     ensures left { OnOk result (StaysLeft left.old left.new) }
 {
     if items.is_empty() {

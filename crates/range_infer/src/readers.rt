@@ -208,7 +208,8 @@ pub(crate) fn readers_of_moved(
     moved: &[bool],
     readers: &[List<PartPlace>],
 ) -> Result<Vec<PartPlace>, NoMemory>
-    ensures { IfOk result (λ parts. HasReaders moved.now readers.now (length moved.now) parts.items) }
+    ensures { IfOk result
+        (λ parts. HasReaders moved.now readers.now (length moved.now) parts.items) }
 {
     let mut parts = Vec::new(alloc);
     for var in 0..moved.len() {

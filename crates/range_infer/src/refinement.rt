@@ -34,7 +34,8 @@ fn opposite_comparison(op: Op) -> Op
 
 /// The comparison that holds where this one has this value.
 pub(crate) fn comparison_where(op: Op, value: bool) -> Op
-    ensures { operator_of result ≡ cond value (operator_of op) (opposite_comparison (operator_of op)) }
+    ensures { operator_of result
+        ≡ cond value (operator_of op) (opposite_comparison (operator_of op)) }
 {
     if value { op } else { opposite_comparison(op) }
 }
@@ -73,7 +74,8 @@ fn put_range(ranges: &mut Vec<VarRange>, var: usize, range: VarRange)
 
 /// Puts back what was replaced since there were so many replaced ranges: what then is left was left before that.
 pub(crate) fn restore_ranges(left: &mut RangesLeft, replaced: usize)
-    ensures { (old : RangesLeft) → replaced ≡ length old.replaced.items → RestoresTo old left.old → StaysLeft old left.new }
+    ensures { (old : RangesLeft) → replaced ≡ length old.replaced.items → RestoresTo old left.old
+        → StaysLeft old left.new }
 {
     while replaced < left.replaced.len() {
         if let Some(last) = left.replaced.pop() {
@@ -92,7 +94,8 @@ pub(crate) fn refine_scalar(
 ) -> Result<(), NoMemory>
     requires near { IsNear n }
     ensures left { OnOk result (variables_left left.new
-        ≡ slice_set (variables_left left.old) var (where_holds (operator_of op) (Some n) (ranged_at (variables_left left.old) var))) }
+        ≡ slice_set (variables_left left.old) var
+        (where_holds (operator_of op) (Some n) (ranged_at (variables_left left.old) var))) }
     ensures back { OnOk result (RestoresTo left.old left.new) }
 {
     if let Some(found) = left.model.vars.as_slice().get(var) {
@@ -112,7 +115,8 @@ fn refine_by(
     value: bool,
 ) -> Result<(), NoMemory>
     ensures left { OnOk result (variables_left left.new
-        ≡ ranges_refined_by (operator_of op) (expression_of first.now) (expression_of second.now) value (variables_left left.old)) }
+        ≡ ranges_refined_by (operator_of op) (expression_of first.now)
+        (expression_of second.now) value (variables_left left.old)) }
     ensures back { OnOk result (RestoresTo left.old left.new) }
 {
     let Expr::Scalar(var) = first else {
@@ -126,7 +130,9 @@ fn refine_by(
 
 /// Refines the ranges to those that are left where an expression has this value.
 pub(crate) fn refine(left: &mut RangesLeft, expr: &Expr, value: bool) -> Result<(), NoMemory>
-    ensures left { OnOk result (variables_left left.new ≡ refined (expression_of expr.now) value (variables_left left.old)) }
+    ensures left { OnOk result
+        (variables_left left.new
+        ≡ refined (expression_of expr.now) value (variables_left left.old)) }
     ensures back { OnOk result (RestoresTo left.old left.new) }
 {
     match expr {

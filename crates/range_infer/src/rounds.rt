@@ -34,7 +34,9 @@ fn first_range(model: &Model, place: usize) -> VarRange
 
 /// The ranges before the first round.
 pub(crate) fn first_ranges(alloc: Global, model: &Model) -> Result<Vec<VarRange>, NoMemory>
-    ensures { IfOk result (λ ranges. ranges.items ≡ each_variable (graph_of model.now) (first_range (graph_of model.now))) }
+    ensures { IfOk result
+        (λ ranges. ranges.items
+        ≡ each_variable (graph_of model.now) (first_range (graph_of model.now))) }
 {
     let mut ranges = Vec::new(alloc);
     for place in 0..model.vars.len() {
@@ -84,7 +86,8 @@ fn grown(
 ) -> Result<Vec<VarRange>, NoMemory>
     requires many { length ranges.now ≡ length model.now.vars }
     ensures many { IfOk result (λ grown. length grown.items ≡ length model.now.vars) }
-    ensures value { IfOk result (λ grown. grown.items ≡ fold (grown_by (graph_of model.now)) ranges.now takes.now) }
+    ensures value { IfOk result
+        (λ grown. grown.items ≡ fold (grown_by (graph_of model.now)) ranges.now takes.now) }
 {
     let mut grown = copied(alloc, ranges)?;
     for taken in takes {
@@ -113,7 +116,9 @@ fn ends_moved(late: bool, declared: VarRange, range: VarRange, new: VarRange) ->
 /// The range of the variable at this place after a round, where it would be `new` if it may grow.
 fn next_range(model: &Model, late: bool, place: usize, range: VarRange, new: VarRange) -> VarRange
     requires { place < length model.now.vars }
-    ensures { result ≡ cond (is_fixed (graph_of model.now) place) range (ends_moved late (declared_range (variable_at (graph_of model.now) place)) range new) }
+    ensures { result
+        ≡ cond (is_fixed (graph_of model.now) place) range
+        (ends_moved late (declared_range (variable_at (graph_of model.now) place)) range new) }
 {
     if is_fixed(model, place) {
         range
@@ -133,8 +138,12 @@ fn next_ranges(
 ) -> Result<Vec<VarRange>, NoMemory>
     requires many { length ranges.now ≡ length model.now.vars }
     requires many_grown { length grown.now ≡ length model.now.vars }
-    ensures { (takes : List Incoming) → grown.now ≡ fold (grown_by (graph_of model.now)) ranges.now takes
-        → IfOk result (λ next. next.items ≡ each_variable (graph_of model.now) (next_range (graph_of model.now) late takes ranges.now)) }
+    ensures { (takes : List Incoming)
+        → grown.now ≡ fold (grown_by (graph_of model.now)) ranges.now takes
+        → IfOk result
+        (λ next. next.items
+        ≡ each_variable (graph_of model.now)
+        (next_range (graph_of model.now) late takes ranges.now)) }
 {
     let mut next = Vec::new(alloc);
     for place in 0..model.vars.len() {
@@ -152,7 +161,10 @@ pub(crate) fn next_round(
     takes: &[Incoming],
 ) -> Result<Vec<VarRange>, NoMemory>
     requires many { length ranges.now ≡ length model.now.vars }
-    ensures { IfOk result (λ next. next.items ≡ each_variable (graph_of model.now) (next_range (graph_of model.now) late takes.now ranges.now)) }
+    ensures { IfOk result
+        (λ next. next.items
+        ≡ each_variable (graph_of model.now)
+        (next_range (graph_of model.now) late takes.now ranges.now)) }
 {
     let grown = grown(alloc, model, ranges, takes)?;
     next_ranges(alloc, model, late, ranges, grown.as_slice())

@@ -7,7 +7,7 @@ use Rattle.model_core.specs.declared.rule_error.RuleError.TheVariants as errors
 use Rattle.model_core.specs.Code.Views.{application_of}
 use Rattle.model_core.specs.EventGraph.{EventGraph}
 use Rattle.model_core.specs.Static.Reading.{IsValid}
-use Rattle.model_core.specs.Rules.ConditionTold.{NamesCondition}
+use Rattle.model_core.specs.Rules.RefusedCondition.{NamesCondition}
 use Rattle.model_core.specs.Rules.Reduction.{RuleApplication, applied, first_rule, Strategy}
 use Rattle.reducer.specs.Inner.LaterRules.{NoEdgeRule, MadeAndNoted, DropMayFollow, nothing_more, dropped_too, MadeThenDrop, IsStrategyNoted, LeavesEdges}
 use Rattle.reducer.proofs.FirstLaterRule.{drop_is_made}

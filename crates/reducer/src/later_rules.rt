@@ -47,7 +47,9 @@ pub(crate) fn apply_later_rules(
 ) -> Result<Reduced, NoMemory>
     requires valid { IsValid (graph_of model) }
     requires no_edge_rule { NoEdgeRule (graph_of model) }
-    ensures { IfOk result (λ r. IsStrategyNoted (graph_of model) (graph_of r.model) (map application_of applications.items) (map application_of r.applications)) }
+    ensures { IfOk result
+        (λ r. IsStrategyNoted (graph_of model) (graph_of r.model)
+        (map application_of applications.items) (map application_of r.applications)) }
 {
     chains_keep_the_meaning();
     later_rules_leave_edges();
@@ -78,7 +80,8 @@ fn note_drop(
     vertices: &List<usize>,
 ) -> Result<(), NoMemory>
     ensures { OnOk result (map application_of applications.new.items
-        ≡ map application_of applications.old.items ++ Drop (map (vertex_name (graph_of model.now)) vertices.now) ∷ []) }
+        ≡ map application_of applications.old.items
+        ++ Drop (map (vertex_name (graph_of model.now)) vertices.now) ∷ []) }
 {
     let names = names_at(alloc, model, Declared::Vertices, vertices.as_slice())?;
     applications.push(Application::Drop {
@@ -139,7 +142,8 @@ impl UnfinishedReduction {
         requires some { length vertices.now ≡ 0 → ⊥ }
         requires unreached { vertices.now ≡ unreached (graph_of self.old.model) }
         ensures made { OnOk result (MadeByRule drop_rule true self.old self.new) }
-        ensures left { OnOk result (graph_of self.new.model ≡ dropped (graph_of self.old.model) vertices.now) }
+        ensures left { OnOk result
+            (graph_of self.new.model ≡ dropped (graph_of self.old.model) vertices.now) }
         ensures all { OnOk result (unreached (graph_of self.new.model) ≡ []) }
         ensures known { self.new.progress ≡ self.old.progress }
     {

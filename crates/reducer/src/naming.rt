@@ -22,7 +22,8 @@ pub(crate) fn names_at(
     declared: Declared,
     places: &[usize],
 ) -> Result<Vec<Name>, NoMemory>
-    ensures { IfOk result (λ names. names.items ≡ map (name_at_place declared (graph_of model.now)) places.now) }
+    ensures { IfOk result
+        (λ names. names.items ≡ map (name_at_place declared (graph_of model.now)) places.now) }
 {
     let mut names = Vec::with_capacity(alloc, places.len())?;
     for place in places {

@@ -44,8 +44,10 @@ impl Progress {
 /// Whether a merge, which was noted, leaves its second vertex as the only one that can't be reached, where all could be before.
 pub(crate) fn is_left_alone(pairs: &KeptPairs, second: usize) -> bool
     requires there { second < length pairs.now }
-    ensures { (g : EventGraph) (first : ℕ) → unreached g ≡ [] → first_failed (merge_conditions g first second) ≡ None
-        → PairsAreRight (merged g first second) pairs.now → AloneIsRight (merged g first second) second result }
+    ensures { (g : EventGraph) (first : ℕ) → unreached g ≡ []
+        → first_failed (merge_conditions g first second) ≡ None
+        → PairsAreRight (merged g first second) pairs.now
+        → AloneIsRight (merged g first second) second result }
 {
     merging_leaves_vertices_reached();
     if second == 0 {

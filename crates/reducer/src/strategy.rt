@@ -24,7 +24,8 @@ pub struct Reduced {
 /// conditions of edges as they were.
 pub fn reduce(alloc: Global, model: Model) -> Result<Reduced, NoMemory>
     requires { IsValid (graph_of model) }
-    ensures { IfOk result (λ r. Strategy (graph_of model) (map application_of r.applications) (graph_of r.model)) }
+    ensures { IfOk result
+        (λ r. Strategy (graph_of model) (map application_of r.applications) (graph_of r.model)) }
 {
     chains_keep_the_meaning();
     let mut reduced = model;

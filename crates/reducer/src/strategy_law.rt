@@ -43,7 +43,8 @@ pub(crate) fn later_rules_leave_edges()
 
 /// The strategy ends on every valid model.
 pub fn strategies_end()
-    ensures { (g : EventGraph) → IsValid g → (applications : List RuleApplication) × (h : EventGraph) × Strategy g applications h }
+    ensures { (g : EventGraph) → IsValid g
+        → (applications : List RuleApplication) × (h : EventGraph) × Strategy g applications h }
 {
     chains_keep_the_meaning();
     later_rules_leave_edges();

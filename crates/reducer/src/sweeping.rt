@@ -23,9 +23,15 @@ pub(crate) fn sweep(
     model: &mut Model,
     applications: &mut Vec<Application>,
 ) -> Result<(), NoMemory>
-    ensures swept { OnOk result (graph_of model.new ≡ record (graph_of model.old) { vertices = map (swept_vertex rule (graph_of model.old)) (graph_of model.old).vertices }) }
+    ensures swept { OnOk result
+        (graph_of model.new
+        ≡ record (graph_of model.old) {
+          vertices = map (swept_vertex rule (graph_of model.old))
+              (graph_of model.old).vertices;
+        }) }
     ensures applied { OnOk result (map application_of applications.new.items
-        ≡ map application_of applications.old.items ++ applied_to_all rule (graph_of model.old) (graph_of model.old).vertices) }
+        ≡ map application_of applications.old.items
+        ++ applied_to_all rule (graph_of model.old) (graph_of model.old).vertices) }
 {
     let mut vertices = mem::replace(&mut model.vertices, List::new(alloc)).into_vec();
     sweep_vertices(alloc, rule, model, &mut vertices, applications)?;
@@ -41,9 +47,12 @@ fn sweep_vertices(
     vertices: &mut Vec<Vertex>,
     applications: &mut Vec<Application>,
 ) -> Result<(), NoMemory>
-    ensures swept { OnOk result (map vertex_of vertices.new.items ≡ map (swept_vertex rule (graph_of model.now)) (map vertex_of vertices.old.items)) }
+    ensures swept { OnOk result
+        (map vertex_of vertices.new.items
+        ≡ map (swept_vertex rule (graph_of model.now)) (map vertex_of vertices.old.items)) }
     ensures applied { OnOk result (map application_of applications.new.items
-        ≡ map application_of applications.old.items ++ applied_to_all rule (graph_of model.now) (map vertex_of vertices.old.items)) }
+        ≡ map application_of applications.old.items
+        ++ applied_to_all rule (graph_of model.now) (map vertex_of vertices.old.items)) }
 {
     for vertex in vertices.iter_mut() {
         sweep_vertex(alloc, rule, model, vertex, applications)?;
@@ -59,9 +68,11 @@ fn sweep_vertex(
     vertex: &mut Vertex,
     applications: &mut Vec<Application>,
 ) -> Result<(), NoMemory>
-    ensures swept { OnOk result (vertex_of vertex.new ≡ swept_vertex rule (graph_of model.now) (vertex_of vertex.old)) }
+    ensures swept { OnOk result
+        (vertex_of vertex.new ≡ swept_vertex rule (graph_of model.now) (vertex_of vertex.old)) }
     ensures applied { OnOk result (map application_of applications.new.items
-        ≡ map application_of applications.old.items ++ applied_to rule (graph_of model.now) (vertex_of vertex.old)) }
+        ≡ map application_of applications.old.items
+        ++ applied_to rule (graph_of model.now) (vertex_of vertex.old)) }
 {
     let edges = vertex.edges.as_mut_vec();
     match rule {
@@ -79,9 +90,13 @@ fn prune_edges(
     edges: &mut Vec<Edge>,
     applications: &mut Vec<Application>,
 ) -> Result<(), NoMemory>
-    ensures swept { OnOk result (map edge_of edges.new.items ≡ flat_map (left_by_sweep rules.Prune (graph_of model.now)) (map edge_of edges.old.items)) }
+    ensures swept { OnOk result
+        (map edge_of edges.new.items
+        ≡ flat_map (left_by_sweep rules.Prune (graph_of model.now)) (map edge_of edges.old.items)) }
     ensures applied { OnOk result (map application_of applications.new.items
-        ≡ map application_of applications.old.items ++ applied_after rules.Prune (graph_of model.now) vertex.now 0 (map edge_of edges.old.items)) }
+        ≡ map application_of applications.old.items
+        ++ applied_after rules.Prune (graph_of model.now) vertex.now 0
+        (map edge_of edges.old.items)) }
 {
     let mut kept = 0;
     for place in 0..edges.len() {
@@ -98,7 +113,8 @@ fn keep(edges: &mut Vec<Edge>, refuted: bool, kept: usize, place: usize) -> usiz
     requires before { kept ≤ place }
     requires there { place < length edges.old.items }
     ensures count { result ≡ kept + cond refuted 0 1 }
-    ensures moved { (passes : Edge → Bool) (all : List Edge) → FiltersInPlace passes all edges.old.items kept place
+    ensures moved { (passes : Edge → Bool) (all : List Edge)
+        → FiltersInPlace passes all edges.old.items kept place
         → ((e : Edge) → e ≡ slice_index_or edges.old.items place e → passes e ≡ not refuted)
         → FiltersInPlace passes all edges.new.items result (place + 1) }
 {
@@ -120,9 +136,13 @@ fn settle_edges(
     edges: &mut Vec<Edge>,
     applications: &mut Vec<Application>,
 ) -> Result<(), NoMemory>
-    ensures swept { OnOk result (map edge_of edges.new.items ≡ map (settled_if_proved (graph_of model.now)) (map edge_of edges.old.items)) }
+    ensures swept { OnOk result
+        (map edge_of edges.new.items
+        ≡ map (settled_if_proved (graph_of model.now)) (map edge_of edges.old.items)) }
     ensures applied { OnOk result (map application_of applications.new.items
-        ≡ map application_of applications.old.items ++ applied_after rules.Settle (graph_of model.now) vertex.now 0 (map edge_of edges.old.items)) }
+        ≡ map application_of applications.old.items
+        ++ applied_after rules.Settle (graph_of model.now) vertex.now 0
+        (map edge_of edges.old.items)) }
 {
     let mut before = 0;
     for edge in edges.iter_mut() {
@@ -143,7 +163,8 @@ fn settle_edges(
 
 /// Makes an edge's condition the literal `true` where it always holds.
 fn settle_edge(edge: &mut Edge, proved: bool)
-    ensures { edge_of edge.new ≡ cond proved (with_true_condition (edge_of edge.old)) (edge_of edge.old) }
+    ensures { edge_of edge.new
+        ≡ cond proved (with_true_condition (edge_of edge.old)) (edge_of edge.old) }
 {
     if proved {
         edge.condition = Expr::Truth(true);
@@ -161,7 +182,8 @@ fn note_edge(
 ) -> Result<(), NoMemory>
     requires { before < 2 ^ 63 }
     ensures { OnOk result (map application_of applications.new.items
-        ≡ map application_of applications.old.items ++ application_here rule vertex.now before applies) }
+        ≡ map application_of applications.old.items
+        ++ application_here rule vertex.now before applies) }
 {
     if applies {
         applications.push(application(alloc, rule, vertex, before as u64 + 1)?)?;

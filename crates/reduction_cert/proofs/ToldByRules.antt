@@ -6,7 +6,7 @@ use Rattle.model_core.specs.declared.rule_error.RuleError.{RuleError}
 use Rattle.model_core.specs.declared.rule_error.RuleError.TheVariants as errors
 use Rattle.model_core.specs.EventGraph.{EventGraph}
 use Rattle.model_core.specs.Rules.Conditions.{first_failed}
-use Rattle.model_core.specs.Rules.ConditionTold.{NamesCondition}
+use Rattle.model_core.specs.Rules.RefusedCondition.{NamesCondition}
 use Rattle.model_core.specs.Rules.Drop.{drop_conditions, dropped}
 use Rattle.model_core.specs.Rules.Merge.{merge_conditions, merged}
 use Rattle.model_core.specs.Rules.Reduction.{Prune, Settle, Drop, Merge, edge_named, vertices_named, two_vertices_named, unless_failed, applied}

@@ -23,7 +23,8 @@ fn from_zero(number: u64) -> Option<usize>
 
 /// The places of the vertex of this name and of its edge, which counts from 1.
 pub(crate) fn edge_named(vertices: &Places, name: &Name, number: u64) -> Option<(usize, usize)>
-    ensures { (g : EventGraph) → HasPlaces (names_of_vertices g.vertices) vertices.now → result ≡ edge_named g name.now number }
+    ensures { (g : EventGraph) → HasPlaces (names_of_vertices g.vertices) vertices.now
+        → result ≡ edge_named g name.now number }
 {
     let vertex = vertices.find(name.as_slice())?;
     let edge = from_zero(number)?;
@@ -36,7 +37,8 @@ pub(crate) fn two_vertices_named(
     name: &Name,
     other: &Name,
 ) -> Option<(usize, usize)>
-    ensures { (g : EventGraph) → HasPlaces (names_of_vertices g.vertices) vertices.now → result ≡ two_vertices_named g name.now other.now }
+    ensures { (g : EventGraph) → HasPlaces (names_of_vertices g.vertices) vertices.now
+        → result ≡ two_vertices_named g name.now other.now }
 {
     let first = vertices.find(name.as_slice())?;
     let second = vertices.find(other.as_slice())?;
@@ -49,7 +51,8 @@ pub(crate) fn all_named(
     places: &Places,
     names: &[Name],
 ) -> Result<Option<List<usize>>, NoMemory>
-    ensures { IfOk result (λ found. found ≡ each_numbered (λ name. listed_place name places.now) names.now) }
+    ensures { IfOk result
+        (λ found. found ≡ each_numbered (λ name. listed_place name places.now) names.now) }
 {
     let mut found = Vec::with_capacity(alloc, names.len())?;
     for name in names {

@@ -21,7 +21,8 @@ pub fn print_certificate(alloc: Global, applications: &List<Application>) -> Res
 
 /// Adds the certificate: a line for each application, in order.
 pub fn put_certificate(out: &mut Vec<u8>, applications: &[Application]) -> Result<(), NoMemory>
-    ensures { OnOk result (out.new.items ≡ out.old.items ++ certificate (map application_of applications.now)) }
+    ensures { OnOk result
+        (out.new.items ≡ out.old.items ++ certificate (map application_of applications.now)) }
 {
     put_bytes(out, b"certificate\n")?;
     put_applications(out, applications)?;
@@ -30,7 +31,9 @@ pub fn put_certificate(out: &mut Vec<u8>, applications: &[Application]) -> Resul
 
 /// Adds a line for each application, in order.
 fn put_applications(out: &mut Vec<u8>, applications: &[Application]) -> Result<(), NoMemory>
-    ensures { OnOk result (out.new.items ≡ out.old.items ++ flat_map application_line (map application_of applications.now)) }
+    ensures { OnOk result
+        (out.new.items
+        ≡ out.old.items ++ flat_map application_line (map application_of applications.now)) }
 {
     for application in applications {
         put_application(out, application)?;
@@ -40,7 +43,9 @@ fn put_applications(out: &mut Vec<u8>, applications: &[Application]) -> Result<(
 
 /// Adds a vertex and the number of its edge, and ends the line.
 fn put_edge(out: &mut Vec<u8>, vertex: &Name, edge: u64) -> Result<(), NoMemory>
-    ensures { OnOk result (out.new.items ≡ out.old.items ++ codes " " ++ vertex.now ++ codes " " ++ decimal edge ++ codes "\n") }
+    ensures { OnOk result
+        (out.new.items
+        ≡ out.old.items ++ codes " " ++ vertex.now ++ codes " " ++ decimal edge ++ codes "\n") }
 {
     put_texts(out, &[b" ", vertex.as_slice()])?;
     put_counted(out, b" ", edge)?;
@@ -49,7 +54,8 @@ fn put_edge(out: &mut Vec<u8>, vertex: &Name, edge: u64) -> Result<(), NoMemory>
 
 /// Adds the line of a merge.
 fn put_merge(out: &mut Vec<u8>, vertex: &Name, target: &Name) -> Result<(), NoMemory>
-    ensures { OnOk result (out.new.items ≡ out.old.items ++ application_line (Merge vertex.now target.now)) }
+    ensures { OnOk result
+        (out.new.items ≡ out.old.items ++ application_line (Merge vertex.now target.now)) }
 {
     put_texts(out, &[b"merge ", vertex.as_slice(), b" "])?;
     put_texts(out, &[target.as_slice(), b"\n"])
@@ -57,7 +63,9 @@ fn put_merge(out: &mut Vec<u8>, vertex: &Name, target: &Name) -> Result<(), NoMe
 
 /// Adds names, each after a space.
 fn put_names(out: &mut Vec<u8>, names: &[Name]) -> Result<(), NoMemory>
-    ensures { OnOk result (out.new.items ≡ out.old.items ++ flat_map (λ (name : List ℕ). codes " " ++ name) names.now) }
+    ensures { OnOk result
+        (out.new.items
+        ≡ out.old.items ++ flat_map (λ (name : List ℕ). codes " " ++ name) names.now) }
 {
     for name in names {
         put_texts(out, &[b" ", name.as_slice()])?;
@@ -67,7 +75,8 @@ fn put_names(out: &mut Vec<u8>, names: &[Name]) -> Result<(), NoMemory>
 
 /// Adds the line of one application.
 fn put_application(out: &mut Vec<u8>, application: &Application) -> Result<(), NoMemory>
-    ensures { OnOk result (out.new.items ≡ out.old.items ++ application_line (application_of application.now)) }
+    ensures { OnOk result
+        (out.new.items ≡ out.old.items ++ application_line (application_of application.now)) }
 {
     match application {
         Application::Prune { vertex, edge } => {

@@ -24,14 +24,17 @@ pub fn applications_have_results()
 
 /// An application leaves no more variables than there were.
 pub fn applications_add_no_variables()
-    ensures { (g h : EventGraph) (a : RuleApplication) → applied g a ≡ Some h → length h.variables ≤ length g.variables }
+    ensures { (g h : EventGraph) (a : RuleApplication) → applied g a ≡ Some h
+        → length h.variables ≤ length g.variables }
 {}
 
 /// The result of an application to a valid model is valid and means the same, and so is the model that a chain of them
 /// reaches.
 pub fn chains_keep_the_meaning()
-    ensures one_valid { (g h : EventGraph) (a : RuleApplication) → IsValid g → applied g a ≡ Some h → IsValid h }
-    ensures one_same { (g h : EventGraph) (a : RuleApplication) → IsValid g → applied g a ≡ Some h → Same g h }
+    ensures one_valid { (g h : EventGraph) (a : RuleApplication) → IsValid g → applied g a ≡ Some h
+        → IsValid h }
+    ensures one_same { (g h : EventGraph) (a : RuleApplication) → IsValid g → applied g a ≡ Some h
+        → Same g h }
     ensures valid { (g : EventGraph) (applications : List RuleApplication) (h : EventGraph)
         → IsValid g → Chain g applications h → IsValid h }
     ensures same { (g : EventGraph) (applications : List RuleApplication) (h : EventGraph)
@@ -50,10 +53,12 @@ pub fn chains_keep_the_meaning()
 pub fn verdicts_tell_chains()
     ensures sound { (g : EventGraph) (applications : List RuleApplication) (h : EventGraph)
         → (verdict g applications h ≡ Sound) ↔ Chain g applications h }
-    ensures rejected { (g : EventGraph) (applications : List RuleApplication) (h : EventGraph) (n : ℕ)
+    ensures rejected { (g : EventGraph) (applications : List RuleApplication) (h : EventGraph)
+        (n : ℕ)
         → (verdict g applications h ≡ Rejected n) ↔ (first_bad g applications ≡ Some n) }
     ensures differs { (g : EventGraph) (applications : List RuleApplication) (h : EventGraph)
-        → (verdict g applications h ≡ Differs) ↔ ((k : EventGraph) × Chain g applications k × (k ≢ h)) }
+        → (verdict g applications h ≡ Differs)
+        ↔ ((k : EventGraph) × Chain g applications k × (k ≢ h)) }
     ensures valid { (g : EventGraph) (applications : List RuleApplication) (h : EventGraph)
         → IsValid g → verdict g applications h ≡ Sound → IsValid h }
     ensures same { (g : EventGraph) (applications : List RuleApplication) (h : EventGraph)

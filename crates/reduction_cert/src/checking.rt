@@ -50,7 +50,10 @@ pub fn check_chain(
     applications: &List<Application>,
     reduced: &Model,
 ) -> Result<Verdict, NoMemory>
-    ensures { IfOk result (λ v. verdict_of v ≡ verdict (graph_of original.now) (map application_of applications.now) (graph_of reduced.now)) }
+    ensures { IfOk result
+        (λ v. verdict_of v
+        ≡ verdict (graph_of original.now) (map application_of applications.now)
+        (graph_of reduced.now)) }
 {
     let mut model = copy_model(alloc, original)?;
     verdict_after(alloc, &mut model, applications, reduced)
@@ -63,7 +66,10 @@ fn verdict_after(
     applications: &List<Application>,
     reduced: &Model,
 ) -> Result<Verdict, NoMemory>
-    ensures { IfOk result (λ v. verdict_of v ≡ verdict (graph_of model.old) (map application_of applications.now) (graph_of reduced.now)) }
+    ensures { IfOk result
+        (λ v. verdict_of v
+        ≡ verdict (graph_of model.old) (map application_of applications.now)
+        (graph_of reduced.now)) }
 {
     if let Some(line) = apply_all(alloc, model, applications.as_slice())? {
         return Ok(Verdict::Rejected { line });
@@ -81,8 +87,11 @@ fn apply_all(
     model: &mut Model,
     applications: &[Application],
 ) -> Result<Option<usize>, NoMemory>
-    ensures bad { IfOk result (λ bad. bad ≡ first_bad (graph_of model.old) (map application_of applications.now)) }
-    ensures reached { result ≡ Ok None → graph_reached (graph_of model.old) (map application_of applications.now) ≡ Some (graph_of model.new) }
+    ensures bad { IfOk result
+        (λ bad. bad ≡ first_bad (graph_of model.old) (map application_of applications.now)) }
+    ensures reached { result ≡ Ok None
+        → graph_reached (graph_of model.old) (map application_of applications.now)
+        ≡ Some (graph_of model.new) }
 {
     applications_add_no_variables();
     let mut vertices = Places::of_vertices(alloc, model.vertices.as_slice())?;
@@ -156,7 +165,9 @@ fn apply_with_next(
     requires listed { HasPlaces (names_of_vertices (graph_of model.old).vertices) vertices.now }
     requires known { FactsAreRight (graph_of model.old) known.old }
     requires counts { NothingCounted (length model.old.vars) counts.old }
-    ensures made { IfOk result (λ made. MadeInEffect (map application_of (drop next applications.now)) (graph_of model.old) (application_of application.now) made (graph_of model.new)) }
+    ensures made { IfOk result
+        (λ made. MadeInEffect (map application_of (drop next applications.now))
+        (graph_of model.old) (application_of application.now) made (graph_of model.new)) }
     ensures known { OnOk result (FactsAreRight (graph_of model.new) known.new) }
     ensures counts { OnOk result (counts.new ≡ counts.old) }
 {
@@ -185,7 +196,9 @@ fn apply(
     requires listed { HasPlaces (names_of_vertices (graph_of model.old).vertices) vertices.now }
     requires known { FactsAreRight (graph_of model.old) known.old }
     requires counts { NothingCounted (length model.old.vars) counts.old }
-    ensures made { IfOk result (λ made. applied (graph_of model.old) (application_of application.now) ≡ cond made (Some (graph_of model.new)) None) }
+    ensures made { IfOk result
+        (λ made. applied (graph_of model.old) (application_of application.now)
+        ≡ cond made (Some (graph_of model.new)) None) }
     ensures known { OnOk result (FactsAreRight (graph_of model.new) known.new) }
     ensures counts { OnOk result (counts.new ≡ counts.old) }
 {
@@ -235,7 +248,8 @@ fn apply_to_edge(
 ) -> bool
     requires listed { HasPlaces (names_of_vertices (graph_of model.old).vertices) vertices.now }
     requires known { FactsAreRight (graph_of model.old) known.old }
-    ensures made { applied (graph_of model.old) (application_by rule vertex.now edge) ≡ cond result (Some (graph_of model.new)) None }
+    ensures made { applied (graph_of model.old) (application_by rule vertex.now edge)
+        ≡ cond result (Some (graph_of model.new)) None }
     ensures known { FactsAreRight (graph_of model.new) known.new }
 {
     let Some((vertex, edge)) = edge_named(vertices, vertex, edge) else {
@@ -265,7 +279,9 @@ fn apply_drop(
 ) -> Result<bool, NoMemory>
     requires listed { HasPlaces (names_of_vertices (graph_of model.old).vertices) vertices.now }
     requires known { FactsAreRight (graph_of model.old) known.old }
-    ensures made { IfOk result (λ made. applied (graph_of model.old) (Drop names.now) ≡ cond made (Some (graph_of model.new)) None) }
+    ensures made { IfOk result
+        (λ made. applied (graph_of model.old) (Drop names.now)
+        ≡ cond made (Some (graph_of model.new)) None) }
     ensures known { OnOk result (FactsAreRight (graph_of model.new) known.new) }
 {
     let Some(dropped) = all_named(alloc, vertices, names)? else {
@@ -290,7 +306,9 @@ fn apply_merge(
     requires listed { HasPlaces (names_of_vertices (graph_of model.old).vertices) vertices.now }
     requires known { FactsAreRight (graph_of model.old) known.old }
     requires counts { NothingCounted (length model.old.vars) counts.old }
-    ensures made { IfOk result (λ made. MergeIsMade second (graph_of model.old) vertex.now target.now made (graph_of model.new)) }
+    ensures made { IfOk result
+        (λ made. MergeIsMade second (graph_of model.old) vertex.now target.now made
+        (graph_of model.new)) }
     ensures known { OnOk result (FactsAreRight (graph_of model.new) known.new) }
     ensures counts { OnOk result (counts.new ≡ counts.old) }
 {
@@ -302,7 +320,9 @@ fn apply_merge(
 
 /// Slices variables away, and says whether they could be.
 fn apply_slice(alloc: Global, model: &mut Model, names: &[Name]) -> Result<bool, NoMemory>
-    ensures { IfOk result (λ made. applied (graph_of model.old) (Slice names.now) ≡ cond made (Some (graph_of model.new)) None) }
+    ensures { IfOk result
+        (λ made. applied (graph_of model.old) (Slice names.now)
+        ≡ cond made (Some (graph_of model.new)) None) }
 {
     let vars = Places::of_variables(alloc, model.vars.as_slice())?;
     let Some(sliced) = all_named(alloc, &vars, names)? else {

@@ -17,7 +17,8 @@ fn is_alone(names: &[Name], name: &Name) -> bool
 
 /// Whether the application at this place drops the vertex of this name alone.
 pub(crate) fn drops_alone(applications: &[Application], place: usize, name: &Name) -> bool
-    ensures { result ≡ true ↔ BeginsWithDrop name.now (map application_of (drop place applications.now)) }
+    ensures { result ≡ true
+        ↔ BeginsWithDrop name.now (map application_of (drop place applications.now)) }
 {
     match applications.get(place) {
         Some(application) => is_drop_of(application, name),

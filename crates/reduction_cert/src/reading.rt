@@ -50,7 +50,8 @@ fn and_more_names(
     cursor: &mut Cursor<'_>,
     names: List<Name>,
 ) -> Result<List<Name>, Stop>
-    ensures { Returned (λ n. n) result cursor.new (with_front names (language_reader (Many plain_name_format) cursor.old)) }
+    ensures { Returned (λ n. n) result cursor.new
+        (with_front names (language_reader (Many plain_name_format) cursor.old)) }
 {
     let mut all = names;
     while cursor.begins_name() {
@@ -61,7 +62,8 @@ fn and_more_names(
 
 /// Reads one or more names.
 fn names(alloc: Global, cursor: &mut Cursor<'_>) -> Result<List<Name>, Stop>
-    ensures { Returned (λ n. n) result cursor.new (language_reader (at_least_one plain_name_format) cursor.old) }
+    ensures { Returned (λ n. n) result cursor.new
+        (language_reader (at_least_one plain_name_format) cursor.old) }
 {
     let first = List::of_one(alloc, name(alloc, cursor)?)?;
     and_more_names(alloc, cursor, first)
@@ -123,7 +125,8 @@ fn slice(alloc: Global, cursor: &mut Cursor<'_>) -> Result<Application, Stop>
 /// Reads an application.
 #[tactic(auto, unfolding(model_core::specs::Text::CertificateText::application_format, model_core::specs::Text::CertificateText::prune_format, model_core::specs::Text::CertificateText::settle_format, model_core::specs::Text::CertificateText::drop_format, model_core::specs::Text::CertificateText::merge_format))]
 fn application(alloc: Global, cursor: &mut Cursor<'_>) -> Result<Application, Stop>
-    ensures { Returned application_of result cursor.new (language_reader application_format cursor.old) }
+    ensures { Returned application_of result cursor.new
+        (language_reader application_format cursor.old) }
 {
     if cursor.begins_word(Word::Prune) {
         prune(alloc, cursor)
@@ -152,7 +155,8 @@ fn begins_application(cursor: &Cursor<'_>) -> bool
 
 /// Reads any number of applications.
 fn applications(alloc: Global, cursor: &mut Cursor<'_>) -> Result<List<Application>, Stop>
-    ensures { Returned (map application_of) result cursor.new (language_reader (Many application_format) cursor.old) }
+    ensures { Returned (map application_of) result cursor.new
+        (language_reader (Many application_format) cursor.old) }
 {
     let mut all = List::new(alloc);
     while begins_application(cursor) {
@@ -164,7 +168,8 @@ fn applications(alloc: Global, cursor: &mut Cursor<'_>) -> Result<List<Applicati
 /// Reads a certificate.
 #[tactic(auto, unfolding(model_core::specs::Text::CertificateText::certificate_format))]
 fn certificate(alloc: Global, cursor: &mut Cursor<'_>) -> Result<List<Application>, Stop>
-    ensures { Returned (map application_of) result cursor.new (language_reader certificate_format cursor.old) }
+    ensures { Returned (map application_of) result cursor.new
+        (language_reader certificate_format cursor.old) }
 {
     cursor.word(Word::Certificate)?;
     let applications = applications(alloc, cursor)?;
@@ -174,7 +179,8 @@ fn certificate(alloc: Global, cursor: &mut Cursor<'_>) -> Result<List<Applicatio
 
 /// Reads a certificate after which no token is left.
 fn whole(alloc: Global, cursor: &mut Cursor<'_>) -> Result<List<Application>, Stop>
-    ensures { Returned (map application_of) result cursor.new (and_next whole_read (language_reader certificate_format cursor.old)) }
+    ensures { Returned (map application_of) result cursor.new
+        (and_next whole_read (language_reader certificate_format cursor.old)) }
 {
     let applications = certificate(alloc, cursor)?;
     cursor.end()?;
@@ -192,9 +198,12 @@ pub fn read_certificate_pieces(
     from: usize,
 ) -> Result<List<Application>, ParseError>
     // What is read is a certificate of these applications.
-    ensures ok { IfOk result (λ applications. IsCertificate (drop from (pieces_lexemes pieces.now)) (map application_of applications)) }
+    ensures ok { IfOk result
+        (λ applications. IsCertificate (drop from (pieces_lexemes pieces.now))
+        (map application_of applications)) }
     // What is refused is none, and this is where the pieces stop to begin one.
-    ensures unexpected { (at : ℕ) → result ≡ Err (ParseError.Unexpected at) → IsNoCertificateAt pieces.now.text.now (drop from (pieces_lexemes pieces.now)) at }
+    ensures unexpected { (at : ℕ) → result ≡ Err (ParseError.Unexpected at)
+        → IsNoCertificateAt pieces.now.text.now (drop from (pieces_lexemes pieces.now)) at }
     ensures never_too_deep { (at : ℕ) → result ≡ Err (ParseError.TooDeep at) → ⊥ }
 {
     let mut cursor = Cursor::from_place(pieces, from);

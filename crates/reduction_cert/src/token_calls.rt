@@ -23,9 +23,12 @@ pub fn read_certificate(
 ) -> Result<List<Application>, ParseError>
     requires { from ≤ length tokens.now.list }
     // What is read is a certificate of these applications.
-    ensures ok { IfOk result (λ applications. IsCertificate (drop from (lexemes tokens.now)) (map application_of applications)) }
+    ensures ok { IfOk result
+        (λ applications. IsCertificate (drop from (lexemes tokens.now))
+        (map application_of applications)) }
     // What is refused is none, and this is where the tokens stop to begin one.
-    ensures unexpected { (at : ℕ) → result ≡ Err (ParseError.Unexpected at) → IsNoCertificateAt tokens.now.text.now (drop from (lexemes tokens.now)) at }
+    ensures unexpected { (at : ℕ) → result ≡ Err (ParseError.Unexpected at)
+        → IsNoCertificateAt tokens.now.text.now (drop from (lexemes tokens.now)) at }
     ensures never_too_deep { (at : ℕ) → result ≡ Err (ParseError.TooDeep at) → ⊥ }
 {
     pieces_are_the_tokens();

@@ -24,7 +24,10 @@ use std::slice::from_ref;
 /// How many bytes the lines of the vertices at these places have, or None where a place has no vertex or they are too many to
 /// count.
 fn lines_length(model: &Model, vertices: &[usize]) -> Option<u64>
-    ensures { IfSome result (λ bytes. bytes ≡ length (flat_map (λ k. vertex_lines (graph_of model.now) (vertex_at (graph_of model.now) k)) vertices.now)) }
+    ensures { IfSome result
+        (λ bytes. bytes
+        ≡ length (flat_map
+        (λ k. vertex_lines (graph_of model.now) (vertex_at (graph_of model.now) k)) vertices.now)) }
 {
     let mut bytes: u64 = 0;
     for place in vertices {
@@ -49,7 +52,8 @@ fn has_later_parts_at(model: &Model, vertex: usize) -> bool
 
 /// Whether one of the vertices at these places has.
 fn one_is_later(model: &Model, vertices: &[usize]) -> bool
-    ensures { result ≡ list_any (λ k. has_later_parts (vertex_at (graph_of model.now) k)) vertices.now }
+    ensures { result
+        ≡ list_any (λ k. has_later_parts (vertex_at (graph_of model.now) k)) vertices.now }
 {
     for vertex in vertices {
         if has_later_parts_at(model, *vertex) {
@@ -62,7 +66,8 @@ fn one_is_later(model: &Model, vertices: &[usize]) -> bool
 /// How many bytes are left of so many without these vertices' lines, or None where that isn't known.
 fn lines_without(model: &Model, lines: Option<u64>, vertices: &[usize]) -> Option<u64>
     requires { LinesAreRight (graph_of model.now) lines }
-    ensures { first_failed (drop_conditions (graph_of model.now) vertices.now) ≡ None → LinesAreRight (dropped (graph_of model.now) vertices.now) result }
+    ensures { first_failed (drop_conditions (graph_of model.now) vertices.now) ≡ None
+        → LinesAreRight (dropped (graph_of model.now) vertices.now) result }
 {
     dropping_takes_lines();
     lines?.checked_sub(lines_length(model, vertices)?)
@@ -73,7 +78,8 @@ fn lines_without(model: &Model, lines: Option<u64>, vertices: &[usize]) -> Optio
 fn version_without(model: &Model, version_two: Option<bool>, vertices: &[usize]) -> Option<bool>
     requires { VersionIsRight (graph_of model.now) version_two }
     ensures is { result ≡ version_without (graph_of model.now) version_two vertices.now }
-    ensures tells { first_failed (drop_conditions (graph_of model.now) vertices.now) ≡ None → VersionIsRight (dropped (graph_of model.now) vertices.now) result }
+    ensures tells { first_failed (drop_conditions (graph_of model.now) vertices.now) ≡ None
+        → VersionIsRight (dropped (graph_of model.now) vertices.now) result }
 {
     dropping_takes_lines();
     if one_is_later(model, vertices) {
@@ -85,7 +91,9 @@ fn version_without(model: &Model, version_two: Option<bool>, vertices: &[usize])
 /// Turns what is known of the lengths of lines of each vertex into what is known after a drop of these.
 fn keep_bodies_without(bodies: &mut Bodies, vertices: &[usize])
     ensures is { bodies.new ≡ bodies_after_drop bodies.old vertices.now }
-    ensures are { (g : EventGraph) → BodiesAreRight g bodies.old → first_failed (drop_conditions g vertices.now) ≡ None → BodiesAreRight (dropped g vertices.now) bodies.new }
+    ensures are { (g : EventGraph) → BodiesAreRight g bodies.old
+        → first_failed (drop_conditions g vertices.now) ≡ None
+        → BodiesAreRight (dropped g vertices.now) bodies.new }
 {
     dropping_one_leaves_lines();
     if vertices.len() == 1 {
@@ -99,9 +107,11 @@ fn keep_bodies_without(bodies: &mut Bodies, vertices: &[usize])
 pub fn keep_after_drop(model: &Model, known: &mut FactsOfModel, vertices: &[usize])
     requires known { FactsAreRight (graph_of model.now) known.old }
     ensures single { known.new.single ≡ still_single known.old.single }
-    ensures version { known.new.version_two ≡ version_without (graph_of model.now) known.old.version_two vertices.now }
+    ensures version { known.new.version_two
+        ≡ version_without (graph_of model.now) known.old.version_two vertices.now }
     ensures bodies { known.new.bodies ≡ bodies_after_drop known.old.bodies vertices.now }
-    ensures known { first_failed (drop_conditions (graph_of model.now) vertices.now) ≡ None → FactsAreRight (dropped (graph_of model.now) vertices.now) known.new }
+    ensures known { first_failed (drop_conditions (graph_of model.now) vertices.now) ≡ None
+        → FactsAreRight (dropped (graph_of model.now) vertices.now) known.new }
 {
     known.single = known.single_without_parts();
     known.lines = lines_without(model, known.lines, vertices);

@@ -7,7 +7,7 @@ use Rattle.std.proofs.lemmas.Simd.{map-map}
 use Rattle.sig_base.specs.declared.limits.TheConstants.{EDGES_MAX}
 use Rattle.model_core.specs.EventGraph.{EventGraph, EventVertex, EventEdge, Variable, WeightTable, Watched, WatchedVariable, WatchedVertex}
 use Rattle.model_core.specs.Text.Lexing.{same_bytes}
-use Rattle.model_core.specs.Text.Spellable.{HasOne, extent, SpellableEdge, SpellableVertex, SpellableWatched, IsSpellable}
+use Rattle.model_core.specs.Text.Spellable.{IsNonEmpty, extent, SpellableEdge, SpellableVertex, SpellableWatched, IsSpellable}
 use Rattle.model_core.specs.Static.OwnRules.{KeepsChange, KeepsEdge, KeepsVertex, IsWatchable, parameters_of, KeepsParts}
 use Rattle.model_core.specs.Rules.Drop.{edge_renumbered, vertex_renumbered, watched_renumbered}
 use Rattle.model_core.proofs.Among.{Among, contained-among, of-among, each-among, all-map, all-contained}
@@ -27,7 +27,7 @@ among-some x (without y some) h = inr (among-some x some h)
 -- and Told of those that are watched
 pub record Stay (g : EventGraph) (kept : List EventVertex) (f : ℕ → ℕ) (Named Told : ℕ → Type 0) : Type 0 where
   pub some : SomeOf kept g.vertices
-  pub has_one : HasOne kept
+  pub has_one : IsNonEmpty kept
   pub edges : (v : EventVertex) → Among v kept → (e : EventEdge) → Among e v.edges → Named e.target
   pub watched : (v : ℕ) → Among (WatchedVertex v) g.watch → Named v × Told v
   pub within : (v : ℕ) → Named v → v < length g.vertices → f v < length kept

@@ -13,7 +13,7 @@ use Rattle.model_core.specs.Text.Openings.{ends_part, is_opening}
 use Rattle.model_core.specs.Text.Grammar.{Grammar, many}
 use Rattle.model_core.specs.Text.Written.{WrittenExpression, WrittenName, WrittenNumber}
 use Rattle.model_core.specs.Text.Numbering.{each_numbered}
-use Rattle.model_core.specs.Text.Spellable.{IsName, HasOne, openings_together}
+use Rattle.model_core.specs.Text.Spellable.{IsName, IsNonEmpty, openings_together}
 use Rattle.model_core.specs.Text.Format.{TokenSort, AName, ANumber, AWord, ASymbol, sort_of, sort_as, Yields, Single, Apply, Either, Many, derives, name_bytes, number_value, any_name, any_number, mark, reserved, ◌<*◌, ◌*>◌, maybe, at_least_one, separated}
 use Rattle.model_core.specs.Text.Expressions.{Level, LanguageFormat}
 use Rattle.text_laws.specs.OpeningCount.{deep_from}
@@ -157,7 +157,7 @@ EachSo R k (x ∷ xs) j = (i : ℕ) × R k x i × EachSo R i xs j
 
 -- one at least
 abbrev pub SomeSo : {A : Type 0} → (ℕ → A → ℕ → Type 0) → ℕ → List A → ℕ → Type 0
-SomeSo R k xs j = HasOne xs × EachSo R k xs j
+SomeSo R k xs j = IsNonEmpty xs × EachSo R k xs j
 
 module _ {levels : Level → Grammar WrittenExpression} where
   pub tells-yields : {A : Type 0} (x : A) (R : Telling A) → ((k : ℕ) → R k x k) → Tells levels (Yields x) R

@@ -48,8 +48,14 @@ impl<P: Pending> Plans<P> {
         steps: &mut Steps<L>,
     ) -> Result<(), NoMemory>
         requires pending { IsSome (next_entry self.old.planned.pending) }
-        ensures gives { OnOk result (Some happening.new ≡ option_map (λ n. n.entry) (next_entry self.old.planned.pending)) }
-        ensures planned { OnOk result (self.new.planned ≡ record self.old.planned { pending = without_next (λ e. true) self.old.planned.pending }) }
+        ensures gives { OnOk result
+            (Some happening.new ≡ option_map (λ n. n.entry) (next_entry self.old.planned.pending)) }
+        ensures planned { OnOk result
+            (self.new.planned
+            ≡ record self.old.planned {
+              pending = without_next
+                  (λ e. true) self.old.planned.pending;
+            }) }
         ensures room { OnOk result (scheduled_by (map edge_of edges.now) ≤ self.new.spare) }
         ensures enough { scheduled_by (map edge_of edges.now) ≤ self.old.spare → IsOk result }
         ensures err { OnErr result (self.new ≡ self.old) }

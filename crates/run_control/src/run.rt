@@ -63,7 +63,8 @@ impl<'m, P: Pending> Model for Run<'m, P> {
       faulted = option_map (λ f. record { time = f.time; kind = f.kind }) r.fault;
     } };
 
-    ghost invariant = { λ r. SoundRun (graph_of r.model.now) r.state r.plans.planned.taken r.turns r.plans.numbered r.plans.vertices r.plans.planned.pending };
+    ghost invariant = { λ r.
+        SoundRun (graph_of r.model.now) r.state r.plans.planned.taken r.turns r.plans.numbered r.plans.vertices r.plans.planned.pending };
 }
 
 /// A vertex of a model.
@@ -250,7 +251,8 @@ impl<'m, P: Pending> Run<'m, P> {
         ensures ok { IfOk result (λ turn. Turns self.old until turn self.new self.old.faulted) }
         ensures err { OnErr result (self.new ≡ self.old) }
         ensures enough { HasRoom self.old (next_entry self.old.now.pending) → IsOk result }
-        ensures within_room { (room : ℕ) → room ≤ self.old.spare + length self.old.now.pending → FitsRoom self.old room (next_entry self.old.now.pending) → IsOk result }
+        ensures within_room { (room : ℕ) → room ≤ self.old.spare + length self.old.now.pending
+            → FitsRoom self.old room (next_entry self.old.now.pending) → IsOk result }
         ensures due { OnErr result (IsDue until (next_entry self.old.now.pending)) }
         ensures keeps { StepKeeps self.old self.new }
     {
@@ -279,7 +281,8 @@ impl<'m, P: Pending> Run<'m, P> {
         requires told { next ≡ next_shown self.old None }
         requires soon { until ≤ 2 ^ 48 }
         requires budget { self.old.turns < 2 ^ 40 }
-        ensures ok { IfOk result (λ turn. IsNextTurn self.old until turn self.new (next_entry self.old.now.pending)) }
+        ensures ok { IfOk result
+            (λ turn. IsNextTurn self.old until turn self.new (next_entry self.old.now.pending)) }
         ensures err { OnErr result (self.new ≡ self.old) }
         ensures enough { HasRoom self.old (next_entry self.old.now.pending) → IsOk result }
         ensures due { OnErr result (IsDue until (next_entry self.old.now.pending)) }

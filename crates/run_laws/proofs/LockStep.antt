@@ -8,7 +8,7 @@ use Rattle.model_core.specs.Run.Value.{OrFault}
 use Rattle.model_core.specs.Run.Pending.{Entry, EntryAndRest, next_entry}
 use Rattle.model_core.specs.Run.Step.{Configuration, vertex_at, occur, faulted_at, step}
 use Rattle.model_core.specs.Run.Machine.{Note, On, RunStatus, Ended, Stopped, Rests, Goes}
-use Rattle.model_core.specs.Run.History.{Moment, Noting, leave, noting_before_event, at_note, watched_values, watches, completed, stepped, comes, next_move, start, look}
+use Rattle.model_core.specs.Run.History.{Moment, NotesAndNoted, leave, noting_before_event, at_note, watched_values, watches, completed, stepped, comes, next_move, start, look}
 use Rattle.model_core.specs.Run.Same.{SameLooks}
 use Rattle.run_laws.proofs.Simulation.{Answers, rests, fails, goes, lock_step_same}
 use Rattle.model_core.proofs.Alongside.{Alongside, both_go, both_fail}
@@ -46,21 +46,21 @@ module _ (g h : EventGraph) (states : State → State) (words : List ℕ → Lis
     completed-same v w place c d (same, sound) = subst (λ (d : Configuration). completed g v c ≡ completed h w d) same
         (ap₂ (λ (o : Option ℕ) (values : List (List ℤ)). option_to_list (option_map (λ place. On c.clock place values) o)) place (ok.watched c.state))
 
-    stepped-answers : (time v w : ℕ) → position (watches v) g.watch ≡ position (watches w) h.watch → (left : Noting) {a b : OrFault Configuration} → Alongside Mapped a b → Answers Level (stepped g v left (faulted_at time a)) (stepped h w left (faulted_at time b))
+    stepped-answers : (time v w : ℕ) → position (watches v) g.watch ≡ position (watches w) h.watch → (left : NotesAndNoted) {a b : OrFault Configuration} → Alongside Mapped a b → Answers Level (stepped g v left (faulted_at time a)) (stepped h w left (faulted_at time b))
     stepped-answers time v w place left (both_go {s = c} {t = d} (same, sound)) =
         subst (λ (notes : List Note). Answers Level (Goes (left.notes ++ completed g v c) (record { now = c; noted = left.noted })) (Goes (left.notes ++ notes) (record { now = d; noted = left.noted }))) (completed-same v w place c d (same, sound))
         (goes (left.notes ++ completed g v c) (ap (λ (d : Configuration). record { now = d; noted = left.noted }) same, sound))
     stepped-answers time v w place left (both_fail k) = fails left.notes _
 
     leave-same : (m : Moment) → leave g m ≡ leave h (moment_mapped m)
-    leave-same m = ap (λ (values : List (List ℤ)). let n : Noting = record { notes = at_note m.now.clock values m.noted; noted = Some values } in n) (ok.watched m.now.state)
+    leave-same m = ap (λ (values : List (List ℤ)). let n : NotesAndNoted = record { notes = at_note m.now.clock values m.noted; noted = Some values } in n) (ok.watched m.now.state)
 
     rests-answers : (m : Moment) (end : RunStatus) → Answers Level (Rests (leave g m).notes end) (Rests (leave h (moment_mapped m)).notes end)
-    rests-answers m end = subst (λ (left : Noting). Answers Level (Rests (leave g m).notes end) (Rests left.notes end)) (leave-same m) (rests (leave g m).notes end)
+    rests-answers m end = subst (λ (left : NotesAndNoted). Answers Level (Rests (leave g m).notes end) (Rests left.notes end)) (leave-same m) (rests (leave g m).notes end)
 
     occurs-answers : (m : Moment) (n : EntryAndRest) → Sound m.now → next_entry m.now.pending ≡ Some n → n.entry.time ≤ 2 ^ 48 → Answers Level (stepped g n.entry.vertex (noting_before_event g m n.entry.time) (step g seed m.now n)) (stepped h (vertices n.entry.vertex) (noting_before_event h (moment_mapped m) n.entry.time) (step h seed (moment_mapped m).now (taken_off_mapped entries n)))
     occurs-answers m n sound next due =
-        subst (λ (left : Noting). Answers Level (stepped g n.entry.vertex (noting_before_event g m n.entry.time) (step g seed m.now n)) (stepped h (vertices n.entry.vertex) left (step h seed (moment_mapped m).now (taken_off_mapped entries n)))) (ap (λ (left : Noting). cond (nat_lt m.now.clock n.entry.time) left (record { notes = []; noted = m.noted })) (leave-same m))
+        subst (λ (left : NotesAndNoted). Answers Level (stepped g n.entry.vertex (noting_before_event g m n.entry.time) (step g seed m.now n)) (stepped h (vertices n.entry.vertex) left (step h seed (moment_mapped m).now (taken_off_mapped entries n)))) (ap (λ (left : NotesAndNoted). cond (nat_lt m.now.clock n.entry.time) left (record { notes = []; noted = m.noted })) (leave-same m))
         (stepped-answers n.entry.time n.entry.vertex (vertices n.entry.vertex) (ok.places m.now n sound next) (noting_before_event g m n.entry.time) (ok.steps m.now n sound next due))
 
     comes-answers : (m : Moment) → Sound m.now → (o : Option EntryAndRest) → next_entry m.now.pending ≡ o → Answers Level (comes g seed until m o) (comes h seed until (moment_mapped m) (option_map (taken_off_mapped entries) o))

@@ -6,7 +6,7 @@ use Rattle.model_core.specs.EventGraph.{EventGraph, EventVertex, EventEdge, Edge
 use Rattle.model_core.specs.Run.State.{State}
 use Rattle.model_core.specs.Run.Value.{OrFault, in_turn, value_of, is_one}
 use Rattle.model_core.specs.Run.Changes.{make_change}
-use Rattle.model_core.specs.Run.Pending.{Entry, EntryAndRest, is_of, is_with, without_next, without_all}
+use Rattle.model_core.specs.Run.Pending.{Entry, EntryAndRest, is_of, is_event_with, without_next, without_all}
 use Rattle.model_core.specs.Run.Edges.{EdgeState, Waiting, delay_of, carried_values, act, treat_edge}
 use Rattle.model_core.specs.Run.Step.{Configuration, receive, occur}
 use Rattle.run_laws.proofs.MappedPending.{without_next-every, without_all-every}
@@ -50,8 +50,8 @@ module _ (L : List Entry → Type 0) (P : Entry → Type 0) (stays : StaysTrue L
       pending-is L _ q at_end (stays.by_one_more p.pending _ holds (only values at_values))
   act-stays e CancelNext p q only holds done = pending-is L _ q done (stays.by_next (is_of e.target) p.pending holds)
   act-stays e CancelEqual p q only holds done =
-      let (values, at_values, at_end) = bind_ok (carried_values g s clk e) (λ values. Ok (record p { pending = without_next (is_with e.target values) p.pending })) q done in
-      pending-is L _ q at_end (stays.by_next (is_with e.target values) p.pending holds)
+      let (values, at_values, at_end) = bind_ok (carried_values g s clk e) (λ values. Ok (record p { pending = without_next (is_event_with e.target values) p.pending })) q done in
+      pending-is L _ q at_end (stays.by_next (is_event_with e.target values) p.pending holds)
   act-stays e CancelAll p q only holds done = pending-is L _ q done (stays.by_all (is_of e.target) p.pending holds)
 
   pub treat_edge-stays : (e : EventEdge) (p q : EdgeState) → (IsTaken g s clk e → SchedulesOnly P g seed s clk e e.kind) → L p.pending → treat_edge g seed s clk e p ≡ Ok q → L q.pending

@@ -9,7 +9,7 @@ use Rattle.model_core.specs.EventGraph.{EventGraph, EventVertex, EventEdge, Edge
 use Rattle.model_core.specs.Run.State.{State, variable_at, cells_of, initial_state}
 use Rattle.model_core.specs.Run.Value.{in_turn, value_of, is_one}
 use Rattle.model_core.specs.Run.Changes.{make_change}
-use Rattle.model_core.specs.Run.Pending.{Entry, EntryAndRest, is_of, is_with, same_values}
+use Rattle.model_core.specs.Run.Pending.{Entry, EntryAndRest, is_of, is_event_with, same_values}
 use Rattle.model_core.specs.Run.Edges.{EdgeState, delay_of, carried_values, scheduled, act, treat_edge}
 use Rattle.model_core.specs.Run.Step.{Configuration, no_vertex, vertex_at, receive, occur}
 use Rattle.model_core.specs.Run.History.{Moment, watched_values, watches, look}
@@ -84,8 +84,8 @@ module _ (g : EventGraph) (f : ℕ → ℕ) (vertices : List EventVertex) (Live 
   of-same : (t : ℕ) → Told t → (p : List Entry) → AllByRecursion LiveEntry p → AllByRecursion (λ e. is_of (f t) (r e) ≡ is_of t e) p
   of-same t told p all = every-map LiveEntry (λ e. is_of (f t) (r e) ≡ is_of t e) (λ e live. ok.apart t told e.vertex live) p all
 
-  with-same : (t : ℕ) (values : List ℤ) → Told t → (p : List Entry) → AllByRecursion LiveEntry p → AllByRecursion (λ e. is_with (f t) values (r e) ≡ is_with t values e) p
-  with-same t values told p all = every-map LiveEntry (λ e. is_with (f t) values (r e) ≡ is_with t values e) (λ e live. ap (λ b. b && same_values e.values values) (ok.apart t told e.vertex live)) p all
+  with-same : (t : ℕ) (values : List ℤ) → Told t → (p : List Entry) → AllByRecursion LiveEntry p → AllByRecursion (λ e. is_event_with (f t) values (r e) ≡ is_event_with t values e) p
+  with-same t values told p all = every-map LiveEntry (λ e. is_event_with (f t) values (r e) ≡ is_event_with t values e) (λ e live. ap (λ b. b && same_values e.values values) (ok.apart t told e.vertex live)) p all
 
   scheduled-alongside : (time priority t : ℕ) (values : List ℤ) (taken : List ℕ) → Live t → (p : List Entry) → AllByRecursion LiveEntry p → Alongside Plans (Ok (record { pending = scheduled time priority t p values; taken = taken })) (Ok (record { pending = scheduled time priority (f t) (map r p) values; taken = taken }))
   scheduled-alongside time priority t values taken live p all =
@@ -103,7 +103,7 @@ module _ (g : EventGraph) (f : ℕ → ℕ) (vertices : List EventVertex) (Live 
       both_go (ap (λ (l : List Entry). record p { pending = l }) (sym (without_next-mapped r keeps_due (is_of e.target) (is_of (f e.target)) p.pending (of-same e.target may p.pending all))), without_next-every LiveEntry (is_of e.target) p.pending all)
   act-alongside seed s clk e CancelEqual may p all =
       bind-alongside-same Plans (carried_values g s clk e) _ _ (λ values c.
-      both_go (ap (λ (l : List Entry). record p { pending = l }) (sym (without_next-mapped r keeps_due (is_with e.target values) (is_with (f e.target) values) p.pending (with-same e.target values may p.pending all))), without_next-every LiveEntry (is_with e.target values) p.pending all))
+      both_go (ap (λ (l : List Entry). record p { pending = l }) (sym (without_next-mapped r keeps_due (is_event_with e.target values) (is_event_with (f e.target) values) p.pending (with-same e.target values may p.pending all))), without_next-every LiveEntry (is_event_with e.target values) p.pending all))
   act-alongside seed s clk e CancelAll may p all =
       both_go (ap (λ (l : List Entry). record p { pending = l }) (sym (without_all-mapped r (is_of e.target) (is_of (f e.target)) p.pending (of-same e.target may p.pending all))), without_all-every LiveEntry (is_of e.target) p.pending all)
 

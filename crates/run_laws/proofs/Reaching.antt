@@ -4,7 +4,7 @@ use Rattle.model_core.specs.EventGraph.{EventGraph}
 use Rattle.model_core.specs.Run.Pending.{EntryAndRest, next_entry}
 use Rattle.model_core.specs.Run.Step.{Configuration, Fault, step}
 use Rattle.model_core.specs.Run.Machine.{Note, RunStatus, Stopped, Going, finished, Look, Move, Rests, Fails, Goes, ahead, before, after, look_of, Reached, reached_after_notes, onward, reached}
-use Rattle.model_core.specs.Run.History.{Moment, Noting, leave, noting_before_event, stepped, comes, next_move, look_from, reached_from}
+use Rattle.model_core.specs.Run.History.{Moment, NotesAndNoted, leave, noting_before_event, stepped, comes, next_move, look_from, reached_from}
 use Rattle.model_core.proofs.Results.{option_map-some}
 use Rattle.run_laws.proofs.Simulation.{ahead_ahead}
 
@@ -63,7 +63,7 @@ made-going move over (suc n) s = made-after (look_of move n) (reached move n) (m
 
 -- ---- runs
 
-stepped-over : (g : EventGraph) (vertex : ℕ) (left : Noting) (r : Result Configuration Fault) → IsOver (stepped g vertex left r)
+stepped-over : (g : EventGraph) (vertex : ℕ) (left : NotesAndNoted) (r : Result Configuration Fault) → IsOver (stepped g vertex left r)
 stepped-over g vertex left (Ok c) = tt
 stepped-over g vertex left (Err f) = refl
 

@@ -5,7 +5,7 @@ use Rattle.model_core.specs.Run.Value.{OrFault}
 use Rattle.model_core.specs.Run.Pending.{Entry, EntryAndRest, next_entry}
 use Rattle.model_core.specs.Run.Step.{Configuration, vertex_at, faulted_at, step}
 use Rattle.model_core.specs.Run.Machine.{Note, Ended, Stopped, Rests, Goes}
-use Rattle.model_core.specs.Run.History.{Moment, Noting, leave, noting_before_event, completed, stepped, comes, next_move, look_from}
+use Rattle.model_core.specs.Run.History.{Moment, NotesAndNoted, leave, noting_before_event, completed, stepped, comes, next_move, look_from}
 use Rattle.model_core.proofs.Alongside.{Alongside, both_go, both_fail}
 use Rattle.run_laws.proofs.Simulation.{Answers, rests, fails, goes, lock_step}
 use Rattle.model_core.specs.Saved.GoingOn.{Alike}
@@ -39,7 +39,7 @@ module _ (g : EventGraph) (seed until : ℕ) where
   completed-alike : (vertex : ℕ) (c d : Configuration) → AlikeSorted c d → completed g vertex c ≡ completed g vertex d
   completed-alike vertex c d alike = ap₂ (λ clock state. completed g vertex (record c { clock = clock; state = state })) alike.clock alike.state
 
-  stepped-alike : (time vertex : ℕ) (left : Noting) {a b : OrFault Configuration} → Alongside AlikeSorted a b → Answers AlikeMoments (stepped g vertex left (faulted_at time a)) (stepped g vertex left (faulted_at time b))
+  stepped-alike : (time vertex : ℕ) (left : NotesAndNoted) {a b : OrFault Configuration} → Alongside AlikeSorted a b → Answers AlikeMoments (stepped g vertex left (faulted_at time a)) (stepped g vertex left (faulted_at time b))
   stepped-alike time vertex left (both_go {s = c} {t = d} alike) =
       subst (λ (notes : List Note). Answers AlikeMoments (Goes (left.notes ++ completed g vertex c) (record { now = c; noted = left.noted })) (Goes (left.notes ++ notes) (record { now = d; noted = left.noted }))) (completed-alike vertex c d alike)
       (goes (left.notes ++ completed g vertex c) (record { now = alike; noted = refl }))

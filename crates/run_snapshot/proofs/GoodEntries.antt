@@ -14,7 +14,7 @@ use Rattle.model_core.specs.Run.Edges.{Waiting, delay_ticks, delay_of, carried_v
 use Rattle.model_core.specs.Run.Step.{no_vertex, vertex_at}
 use Rattle.model_core.specs.Text.Spellable.{IsSigned, extent, SpellableExpression, SpellableDelay, SpellableKind, SpellableEdge, SpellableVertex, SpellableVariable, IsSpellable, HasWrittenRange}
 use Rattle.model_core.specs.Static.HasKind.{HasKind}
-use Rattle.model_core.specs.Static.OwnRules.{IsLiteral, FitsKind, KeepsVariable, KeepsRow, KeepsTable, KeepsChoice, CarriesValues, KeepsDelay, KeepsTiming, KeepsEdge, KeepsVertex, TakeCarried, parameters_of, KeepsParts}
+use Rattle.model_core.specs.Static.OwnRules.{IsLiteral, FitsKind, KeepsVariable, KeepsRow, KeepsTable, KeepsChoice, CarriesValues, KeepsDelay, KeepsTiming, KeepsEdge, KeepsVertex, CarriedFitKinds, parameters_of, KeepsParts}
 use Rattle.model_core.proofs.Results.{bind_ok}
 use Rattle.model_core.proofs.EachOne.{every-both, every-map}
 use Rattle.static_laws.proofs.StaticTwins.Zips.{zip_length}
@@ -121,7 +121,7 @@ module _ (g : EventGraph) (parts : KeepsParts g) (spelled : IsSpellable g) (seed
       subst (λ (n : ℕ). n ≤ 2 ^ 63 - 1) same (ticks-near (drawn_value g choice w) ticks (drawn_value-wide g choice w parts.tables is.1 (word_small seed stream (taken_from taken stream))) at_ticks)
 
   -- an event of this vertex, scheduled now or soon
-  made-good : (e : EventEdge) (parameters : List ℕ) (ticks priority : ℕ) (values : List ℤ) → slice_get (parameters_of g) e.target ≡ Some parameters → ticks ≤ 2 ^ 63 - 1 → priority ≤ 255 → TakeCarried g.variables (length g.tables) (parameters_of g) parameters e.values → AllByRecursion (SpellableExpression (length g.variables)) e.values → carried_values g s clk e ≡ Ok values
+  made-good : (e : EventEdge) (parameters : List ℕ) (ticks priority : ℕ) (values : List ℤ) → slice_get (parameters_of g) e.target ≡ Some parameters → ticks ≤ 2 ^ 63 - 1 → priority ≤ 255 → CarriedFitKinds g.variables (length g.tables) (parameters_of g) parameters e.values → AllByRecursion (SpellableExpression (length g.variables)) e.values → carried_values g s clk e ≡ Ok values
       → IsGoodEntry g clk (record { time = clk + ticks; priority = priority; vertex = e.target; values = values })
   made-good e parameters ticks priority values target near low carries fits at_values =
       let (there, same) = got-image (λ (v : EventVertex). v.parameters) g.vertices no_vertex e.target parameters target in

@@ -10,7 +10,7 @@ use Rattle.model_core.specs.Run.Changes.{taken_from}
 use Rattle.model_core.specs.Run.Pending.{Entry}
 use Rattle.model_core.specs.Run.Step.{vertex_at, occur}
 use Rattle.model_core.specs.Run.Machine.{Note, Goes, Reached}
-use Rattle.model_core.specs.Run.History.{Moment, Noting, leave, noting_before_event, next_move, start, allowed, reached_from}
+use Rattle.model_core.specs.Run.History.{Moment, NotesAndNoted, leave, noting_before_event, next_move, start, allowed, reached_from}
 use Rattle.model_core.specs.Text.Spellable.{IsSpellable}
 use Rattle.model_core.specs.Static.OwnRules.{IsWatchable, KeepsVertex, parameters_of, KeepsParts}
 use Rattle.model_core.proofs.EachOne.{every-both, every-map}
@@ -58,7 +58,7 @@ few-parts g parts k =
 module _ (g : EventGraph) (parts : KeepsParts g) (spelled : IsSpellable g) (seed until : ℕ) (early : until ≤ 2 ^ 48) where
   left-sound : (m : Moment) (n : ℕ) (time : ℕ) → IsSound g n m → IfSome (noting_before_event g m time).noted (λ values. each_in_range (variables_watched g g.watch) values ≡ true)
   left-sound m n time sound = chosen (nat_lt m.now.clock time) where
-    chosen : (b : Bool) → IfSome (let left : Noting = cond b (leave g m) (record { notes = []; noted = m.noted }) in left.noted) (λ values. each_in_range (variables_watched g g.watch) values ≡ true)
+    chosen : (b : Bool) → IfSome (let left : NotesAndNoted = cond b (leave g m) (record { notes = []; noted = m.noted }) in left.noted) (λ values. each_in_range (variables_watched g g.watch) values ≡ true)
     chosen true = watched-in_range g m.now.state g.watch sound.inside parts.watch
     chosen false = sound.noted
 

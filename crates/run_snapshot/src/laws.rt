@@ -14,14 +14,17 @@ use run_laws::runs_go_on;
 
 /// Of the order of scheduling only the order among events that are due alike counts.
 pub fn due_order_decides()
-    ensures { (g : EventGraph) (seed until n : ℕ) (noted : Option (List (List ℤ))) (c d : Configuration) → Alike c d
-        → look_from g seed until n (record { now = c; noted = noted }) ≡ look_from g seed until n (record { now = d; noted = noted }) }
+    ensures { (g : EventGraph) (seed until n : ℕ) (noted : Option (List (List ℤ)))
+        (c d : Configuration) → Alike c d
+        → look_from g seed until n (record { now = c; noted = noted })
+        ≡ look_from g seed until n (record { now = d; noted = noted }) }
 {}
 
 /// A run that is going on after n steps can be stopped there: from the moment reached it goes on as the whole run
 /// does, up to any stop time that isn't before its clock.
 pub fn stopped_runs_go_on()
-    ensures { (g : EventGraph) (seed : ℕ) (starts : List ℤ) (until n : ℕ) → (look g seed starts until n).standing ≡ Going
+    ensures { (g : EventGraph) (seed : ℕ) (starts : List ℤ) (until n : ℕ)
+        → (look g seed starts until n).standing ≡ Going
         → (m : Moment) × GoesOn g seed starts until n m }
 {
     runs_go_on();
@@ -30,8 +33,10 @@ pub fn stopped_runs_go_on()
 /// So can a saved run, for a valid model and within the limits of a run: what is saved is good, and the history from
 /// there on, after the one so far, is that of the whole run.
 pub fn saved_runs_resume()
-    ensures { (g : EventGraph) (seed : ℕ) (starts : List ℤ) (until n : ℕ) → KeepsStaticRules g → IsSpellable g
-        → seed < 2 ^ 64 → IsTrue (allowed g starts) → until ≤ 2 ^ 48 → n ≤ 2 ^ 40 → (look g seed starts until n).standing ≡ Going
+    ensures { (g : EventGraph) (seed : ℕ) (starts : List ℤ) (until n : ℕ) → KeepsStaticRules g
+        → IsSpellable g
+        → seed < 2 ^ 64 → IsTrue (allowed g starts) → until ≤ 2 ^ 48 → n ≤ 2 ^ 40
+        → (look g seed starts until n).standing ≡ Going
         → (m : Moment) × GoesOn g seed starts until n m × Resumes g seed starts until n m }
 {
     due_order_decides();

@@ -34,7 +34,9 @@ fn tracer_of<'m>(
     noted: &Option<List<i64>>,
 ) -> Result<Tracer<'m>, NoMemory>
     requires { FitWatched (graph_of model.now) noted.now }
-    ensures { IfOk result (λ tracer. tracer ≡ record { model = model.now; noted = noted_as_cells (graph_of model.now) noted.now }) }
+    ensures { IfOk result
+        (λ tracer. tracer
+        ≡ record { model = model.now; noted = noted_as_cells (graph_of model.now) noted.now }) }
 {
     let mut tracer = Tracer::begin(alloc, model)?;
     if let Some(values) = noted {
@@ -55,7 +57,9 @@ pub fn resume<'m, P: Pending>(
 where
     P: Drop,
     requires possible { PossibleModel (graph_of model.now) }
-    requires watch { AllByRecursion (IsWatchable (length (graph_of model.now).variables) (length (graph_of model.now).vertices)) (graph_of model.now).watch }
+    requires watch { AllByRecursion
+        (IsWatchable (length (graph_of model.now).variables)
+        (length (graph_of model.now).vertices)) (graph_of model.now).watch }
     requires good { IsGood (graph_of model.now) snapshot.now }
     requires few { length snapshot.now.pending < 2 ^ 61 }
     requires empty { P.entries pending ≡ [] }

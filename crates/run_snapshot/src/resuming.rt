@@ -53,7 +53,9 @@ fn put_variable(model: &Model, var: usize, values: &[i64], state: &mut State)
     requires declared { var < length model.now.vars }
     requires exists { var < length state.old }
     requires matched { length values.now ≡ length (cells_of state.old var) }
-    requires inside { IsTrue (in_ranges (replicate (length values.now) (variable_at (graph_of model.now) var)) values.now) }
+    requires inside { IsTrue
+        (in_ranges (replicate (length values.now)
+        (variable_at (graph_of model.now) var)) values.now) }
     ensures { state.new ≡ slice_set state.old var values.now }
 {
     for i in 0..values.len() {
@@ -64,7 +66,8 @@ fn put_variable(model: &Model, var: usize, values: &[i64], state: &mut State)
 /// The state of a model in which all cells hold these values, in order.
 pub(crate) fn state_of(alloc: Global, model: &Model, values: &[i64]) -> Result<State, NoMemory>
     requires { IsTrue (in_ranges (cell_variables (graph_of model.now).variables) values.now) }
-    ensures { IfOk result (λ state. state ≡ cut_up (map cell_count (graph_of model.now).variables) values.now) }
+    ensures { IfOk result
+        (λ state. state ≡ cut_up (map cell_count (graph_of model.now).variables) values.now) }
 {
     let mut state = State::begin(alloc, model)?;
     let mut from = 0;

@@ -86,7 +86,8 @@ where
     requires one_model { run.model ≡ model.now }
     requires traced { tracer.now.model ≡ model.now }
     requires goes_on { run.faulted ≡ None }
-    ensures { IfOk result (λ snapshot. snapshot ≡ saved seed run.entry.turns (moment_of run.entry tracer.now)) }
+    ensures { IfOk result
+        (λ snapshot. snapshot ≡ saved seed run.entry.turns (moment_of run.entry tracer.now)) }
 {
     let Parts {
         mut pending,

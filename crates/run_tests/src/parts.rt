@@ -201,7 +201,10 @@ fn with_one_more<'m, P: Pending + Drop, L: Ledger>(
     requires few { run.numbered < 2 ^ 61 }
     ensures model { IfOk result (λ later. later.model ≡ model.now) }
     ensures turns { IfOk result (λ later. later.turns ≡ run.entry.turns) }
-    ensures pending { IfOk result (λ later. later.now.pending ≡ run.entry.now.pending ++ record { time = time; priority = 5; vertex = 0; values = [] } ∷ []) }
+    ensures pending { IfOk result
+        (λ later. later.now.pending
+        ≡ run.entry.now.pending
+        ++ record { time = time; priority = 5; vertex = 0; values = [] } ∷ []) }
 {
     let Parts {
         mut pending,

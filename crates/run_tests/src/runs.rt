@@ -23,7 +23,10 @@ fn no_name(alloc: Global) -> Name
 
 /// The variable's value and 1 more.
 fn raising(alloc: Global) -> Result<Change, NoMemory>
-    ensures { IfOk result (λ change. change_of change ≡ Set (record { variable = 0; index = None } ∷ []) (Binary Add (Scalar 0) (Number (pos 1)) ∷ [])) }
+    ensures { IfOk result
+        (λ change. change_of change
+        ≡ Set (record { variable = 0; index = None } ∷ [])
+        (Binary Add (Scalar 0) (Number (pos 1)) ∷ [])) }
 {
     let raised = Expr::binary(alloc, Op::Add, Expr::Scalar(0), Expr::Int(1))?;
     let target = Target {
@@ -38,7 +41,14 @@ fn raising(alloc: Global) -> Result<Change, NoMemory>
 
 /// The event again, after 5 ticks.
 fn again(alloc: Global) -> Edge
-    ensures { edge_of result ≡ record { target = 0; values = []; condition = Truth true; kind = Schedule (Fixed (Number (pos 5))) 5 } }
+    ensures { edge_of result
+        ≡ record {
+          target = 0;
+          values = [];
+          condition = Truth true;
+          kind = Schedule
+              (Fixed (Number (pos 5))) 5;
+        } }
 {
     Edge {
         target: 0,

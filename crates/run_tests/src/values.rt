@@ -16,7 +16,8 @@ use std::mem::forget;
 use std::test::*;
 
 fn variable(alloc: Global, size: usize, lo: i64, hi: i64, clip: bool) -> Var
-    ensures { variable_of result ≡ record { name = []; size = size; kind = kinds.Range; lo = lo; hi = hi; clip = clip; initial = lo } }
+    ensures { variable_of result
+        ≡ record { name = []; size = size; kind = kinds.Range; lo = lo; hi = hi; clip = clip; initial = lo } }
 {
     Var {
         name: Name::from_vec(Vec::new(alloc)),

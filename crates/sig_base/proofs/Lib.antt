@@ -3,3 +3,4 @@ pub mod SinkLemmas
 pub mod SourceLemmas
 pub mod DigitsTaken
 pub mod SumsSearched
+pub mod Tests

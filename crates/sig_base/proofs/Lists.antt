@@ -1,6 +1,6 @@
 -- Lemmas on any list that std doesn't have.
-use Rattle.std.proofs.Common.{◌≡◌, ℕ, zero, suc, ◌<◌, ◌+◌, Bool, true, false, cond, List, [], ◌∷◌, ◌++◌, All, map, take, drop, length, get_or, Some, refl, sym, ap, ◌∙◌, subst, arith, Option, None}
-use Rattle.std.specs.Prelude.{filter, slice_get, filter_map}
+use Rattle.std.proofs.Common.{◌≡◌, ℕ, zero, suc, ◌<◌, ◌≤◌, ◌+◌, ◌-◌, Bool, true, false, cond, List, [], ◌∷◌, ◌++◌, All, map, take, drop, length, get_or, slice_index_or, replicate, Some, refl, sym, ap, ◌∙◌, subst, arith, Option, None}
+use Rattle.std.specs.Prelude.{filter, slice_get, slice_index, filter_map}
 use Rattle.std.specs.List.{AllByRecursion, flat_map, remove, cons_option}
 use Rattle.std.proofs.Math.ListN.{set}
 use Rattle.std.proofs.lemmas.List.{get_or-map, length-map, drop_more, map_more, flat_map_more}
@@ -13,6 +13,33 @@ filter-cons f false x xs ys e = e
 pub map-filter : {A B : Type 0} (f : A → B) (keeps : B → Bool) (xs : List A) → map f (filter (λ x. keeps (f x)) xs) ≡ filter keeps (map f xs)
 map-filter f keeps [] = refl
 map-filter f keeps (x ∷ xs) = filter-cons f (keeps (f x)) x (filter (λ y. keeps (f y)) xs) (filter keeps (map f xs)) (map-filter f keeps xs)
+
+-- ---- places
+
+-- there is an element at each place below the length
+pub get_or-there : {A : Type 0} (xs : List A) (k : ℕ) → k < length xs → (x : A) × (x ≡ get_or xs k x)
+get_or-there [] k below = absurd (omega (arith, below))
+get_or-there (x ∷ xs) zero below = (x, refl)
+get_or-there (x ∷ xs) (suc k) below = get_or-there xs k (omega (arith, below))
+
+-- what holds of each element and of the default holds at each place
+pub slice_index_or-all : {A : Type 0} (P : A → Type 0) (xs : List A) (d : A) (k : ℕ) → AllByRecursion P xs → P d → P (slice_index_or xs k d)
+slice_index_or-all P [] d k all default = default
+slice_index_or-all P (x ∷ xs) d zero all default = all.0
+slice_index_or-all P (x ∷ xs) d (suc k) all default = slice_index_or-all P xs d k all.1 default
+
+-- in a list of zeros, and past its end, there is 0
+pub slice_index-zeros : (n k : ℕ) → slice_index (replicate n 0) k ≡ 0
+slice_index-zeros zero k = refl
+slice_index-zeros (suc n) zero = refl
+slice_index-zeros (suc n) (suc k) = slice_index-zeros n k
+
+-- how many places there are from one on: one more than from the next one on, or none
+pub places_from : (i n : ℕ) → i < n → n - i ≡ suc (n - (i + 1))
+places_from i n below = omega (arith, below)
+
+pub no_places_from : (i n : ℕ) → n ≤ i → n - i ≡ 0
+no_places_from i n past = omega (arith, past)
 
 -- ---- the element after a front
 

@@ -1,7 +1,12 @@
 -- Lemmas on the bytes that a sink has taken.
-use Rattle.std.proofs.Common.{ℕ, ◌+◌, List, ◌++◌, take, drop, Option, Some, None, sym, ap, subst, ◌∙◌, append_assoc}
+use Rattle.std.proofs.Common.{ℕ, ◌+◌, List, [], ◌++◌, take, drop, Option, Some, None, sym, ap, subst, ◌∙◌, append_assoc, append-nil}
 use Rattle.std.proofs.Math.Seq.{take-add}
 use Rattle.sig_base.specs.Sink.{GrowsBy}
+
+-- it grew by nothing
+pub GrowsBy-nothing : (old : Option (List ℕ)) → GrowsBy old old []
+GrowsBy-nothing None = tt
+GrowsBy-nothing (Some bytes) = ap Some (sym (append-nil bytes))
 
 -- it grew by one piece, and then by another
 pub GrowsBy-append : (a b c : Option (List ℕ)) (first second : List ℕ) → GrowsBy a b first → GrowsBy b c second → GrowsBy a c (first ++ second)

@@ -69,7 +69,8 @@ impl<T> List<T> {
 
     /// The `Vec` of the items, lent for writing.
     pub fn as_mut_vec(&mut self) -> &mut Vec<T>
-        ensures* writes_back { sem 𝓛 (Lends (the_row T.row) (items_row T.row) self.entry result (λ v. v.items)) }
+        ensures* writes_back { sem 𝓛
+            (Lends (the_row T.row) (items_row T.row) self.entry result (λ v. v.items)) }
         ensures shows { result.now.items ≡ self.old }
     {
         &mut self.items

@@ -38,7 +38,8 @@ impl Model for MemorySink {
       settled = s.settled;
     } };
 
-    ghost invariant = { λ s. (vec_len s.bytes ≤ s.capacity) × (s.capacity ≤ vec_capacity s.bytes) × (0 < s.piece) };
+    ghost invariant = { λ s.
+        (vec_len s.bytes ≤ s.capacity) × (s.capacity ≤ vec_capacity s.bytes) × (0 < s.piece) };
 }
 
 impl MemorySink {
@@ -93,7 +94,8 @@ impl MemorySink {
 impl Sink for MemorySink {
     ghost use Rattle.std.specs.Prelude.{Some};
 
-    ghost seen = { λ s. record { written = Some s.written; faults = s.faults; settled = s.settled } };
+    ghost seen = { λ s.
+        record { written = Some s.written; faults = s.faults; settled = s.settled } };
 
     fn write(&mut self, piece: &[u8]) -> Result<usize, Failed>
         requires { 0 < length piece.now }
@@ -101,7 +103,8 @@ impl Sink for MemorySink {
         // Each call counts, and those fail whose number is chosen and those without room.
         ensures counted { self.new.calls ≡ min (self.old.calls + 1) last_count }
         ensures fails { IsErr result
-            ↔ (Contains self.old.failing self.new.calls ⊎ (length self.old.written ≡ self.old.capacity)) }
+            ↔ (Contains self.old.failing self.new.calls
+            ⊎ (length self.old.written ≡ self.old.capacity)) }
 
         // A write takes as much as there is, as a piece may have and as fits.
         ensures count { IfOk result (λ n. n ≡ min (min (length piece.now) self.old.piece)

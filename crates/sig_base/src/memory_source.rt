@@ -44,7 +44,8 @@ impl MemorySource {
     /// The calls whose numbers are in `failing` fail. The first call has the number 1.
     pub fn new(content: Text, piece: usize, failing: List<u64>) -> MemorySource
         requires { 0 < piece }
-        ensures { result ≡ record { left = content; piece = piece; failing = failing; calls = 0; faults = 0 } }
+        ensures { result
+            ≡ record { left = content; piece = piece; failing = failing; calls = 0; faults = 0 } }
     {
         MemorySource {
             content,
@@ -77,7 +78,8 @@ impl Source for MemorySource {
         ensures fails { IsErr result ↔ Contains self.old.failing self.new.calls }
 
         // A read gives as much as there is, as a piece may have and as fits.
-        ensures count { IfOk result (λ n. n ≡ min (min (length self.old.left) self.old.piece) (length into.new)) }
+        ensures count { IfOk result
+            (λ n. n ≡ min (min (length self.old.left) self.old.piece) (length into.new)) }
         ensures shows { IfOk result (λ n. take n into.new ≡ take n self.old.left) }
         ensures end { IfOk result (λ n. n ≡ 0 → self.old.left ≡ []) }
 

@@ -9,7 +9,8 @@ use crate::sink::Sink;
 
 /// Writes all the bytes, and stops at the first call that fails.
 pub fn put<K: Sink>(sink: &mut K, bytes: &[u8]) -> Result<(), Failed>
-    ensures all { OnOk result (GrowsBy (K.seen sink.old).written (K.seen sink.new).written bytes.now) }
+    ensures all { OnOk result
+        (GrowsBy (K.seen sink.old).written (K.seen sink.new).written bytes.now) }
     ensures prefix { OnErr result ((n : ℕ) × (n < length bytes.now)
         × GrowsBy (K.seen sink.old).written (K.seen sink.new).written (take n bytes.now)) }
     ensures unsettled { 0 < length bytes.now → (K.seen sink.new).settled ≡ false }

@@ -17,7 +17,8 @@ pub trait Sink {
         requires { 0 < length piece.now }
         ensures some { IfOk result (λ n. 0 < n) }
         ensures within { IfOk result (λ n. n ≤ length piece.now) }
-        ensures grows { IfOk result (λ n. GrowsBy (seen self.old).written (seen self.new).written (take n piece.now)) }
+        ensures grows { IfOk result
+            (λ n. GrowsBy (seen self.old).written (seen self.new).written (take n piece.now)) }
         ensures stays { OnErr result (Stays (seen self.old).written (seen self.new).written) }
         ensures unsettled { (seen self.new).settled ≡ false }
         ensures steady { OnOk result ((seen self.new).faults ≡ (seen self.old).faults) }

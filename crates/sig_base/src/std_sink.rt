@@ -27,7 +27,8 @@ pub struct StdSink<W> {
 impl<W: Write> StdSink<W> {
     /// The sink that writes to the writer.
     pub fn new(inner: W) -> StdSink<W>
-        ensures { ⟦<StdSink<W> as Sink>⟧.seen result ≡ record { written = W.contents inner; faults = 0; settled = false } }
+        ensures { ⟦<StdSink<W> as Sink>⟧.seen result
+            ≡ record { written = W.contents inner; faults = 0; settled = false } }
     {
         StdSink {
             inner,
@@ -38,14 +39,18 @@ impl<W: Write> StdSink<W> {
 }
 
 impl<W: Write> Sink for StdSink<W> {
-    ghost seen = { λ s. record { written = W.contents s.inner; faults = s.faults; settled = s.settled } };
+    ghost seen = { λ s.
+        record { written = W.contents s.inner; faults = s.faults; settled = s.settled } };
 
     fn write(&mut self, piece: &[u8]) -> Result<usize, Failed>
         requires { 0 < length piece.now }
         ensures some { IfOk result (λ n. 0 < n) }
         ensures within { IfOk result (λ n. n ≤ length piece.now) }
-        ensures grows { IfOk result (λ n. GrowsBy (W.contents self.old.inner) (W.contents self.new.inner) (take n piece.now)) }
-        ensures stays { OnErr result (Stays (W.contents self.old.inner) (W.contents self.new.inner)) }
+        ensures grows { IfOk result
+            (λ n. GrowsBy (W.contents self.old.inner) (W.contents self.new.inner)
+            (take n piece.now)) }
+        ensures stays { OnErr result
+            (Stays (W.contents self.old.inner) (W.contents self.new.inner)) }
         ensures unsettled { self.new.settled ≡ false }
         ensures steady { OnOk result (self.new.faults ≡ self.old.faults) }
         ensures failed { OnErr result (HasRisen self.old.faults self.new.faults) }

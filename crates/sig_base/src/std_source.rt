@@ -26,7 +26,8 @@ pub struct StdSource<R> {
 impl<R: Read> StdSource<R> {
     /// The source of what the reader has left.
     pub fn new(inner: R) -> StdSource<R>
-        ensures { ⟦<StdSource<R> as Source>⟧.seen result ≡ record { left = R.remaining inner; faults = 0 } }
+        ensures { ⟦<StdSource<R> as Source>⟧.seen result
+            ≡ record { left = R.remaining inner; faults = 0 } }
     {
         StdSource { inner, faults: 0 }
     }
@@ -38,10 +39,12 @@ impl<R: Read> Source for StdSource<R> {
     fn read(&mut self, into: &mut [u8]) -> Result<usize, Failed>
         requires { 0 < length into.old }
         ensures within { IfOk result (λ n. n ≤ length into.new) }
-        ensures takes { IfOk result (λ n. Takes (R.remaining self.old.inner) (R.remaining self.new.inner) n) }
+        ensures takes { IfOk result
+            (λ n. Takes (R.remaining self.old.inner) (R.remaining self.new.inner) n) }
         ensures shows { IfOk result (λ n. Shows (R.remaining self.old.inner) n into.new) }
         ensures end { IfOk result (λ n. n ≡ 0 → IsAtEnd (R.remaining self.old.inner)) }
-        ensures stays { OnErr result (Stays (R.remaining self.old.inner) (R.remaining self.new.inner)) }
+        ensures stays { OnErr result
+            (Stays (R.remaining self.old.inner) (R.remaining self.new.inner)) }
         ensures steady { OnOk result (self.new.faults ≡ self.old.faults) }
         ensures failed { OnErr result (HasRisen self.old.faults self.new.faults) }
 

@@ -49,7 +49,8 @@ impl Source for SureSource {
         requires { 0 < length into.old }
         ensures sure { IsOk result }
         // A read gives as much as there is, as a piece may have and as fits.
-        ensures count { IfOk result (λ n. n ≡ min (min (length self.old.left) self.old.piece) (length into.new)) }
+        ensures count { IfOk result
+            (λ n. n ≡ min (min (length self.old.left) self.old.piece) (length into.new)) }
         ensures shows { IfOk result (λ n. take n into.new ≡ take n self.old.left) }
         ensures end { IfOk result (λ n. n ≡ 0 → self.old.left ≡ []) }
         ensures ok { IfOk result (λ n. self.new ≡ record self.old { left = drop n self.old.left }) }

@@ -53,7 +53,9 @@ pub fn share_of(word: u32, count: u64) -> u64
 
 /// Of each row the sum of its weight and those before it, as far as 64 bits hold it.
 fn sums_of(alloc: Global, rows: &[Row]) -> Result<List<u64>, NoMemory>
-    ensures { IfOk result (λ sums. sum (map (λ r. r.weight) rows.now) ≤ 2 ^ 32 → sums ≡ running_sums 0 (map (λ r. r.weight) rows.now)) }
+    ensures { IfOk result
+        (λ sums. sum (map (λ r. r.weight) rows.now) ≤ 2 ^ 32
+        → sums ≡ running_sums 0 (map (λ r. r.weight) rows.now)) }
 {
     let mut sums = Vec::with_capacity(alloc, rows.len())?;
     let mut sum: u64 = 0;
@@ -145,7 +147,8 @@ impl Table {
 
     /// The place of the row that has this word in its share. Where the weights sum to more than 2^32 it may be any place.
     pub fn place(&self, word: u32) -> usize
-        ensures { sum (map (λ r. r.weight) self.now.rows) ≤ 2 ^ 32 → result ≡ weighted_pick (map (λ r. r.weight) self.now.rows) word }
+        ensures { sum (map (λ r. r.weight) self.now.rows) ≤ 2 ^ 32
+            → result ≡ weighted_pick (map (λ r. r.weight) self.now.rows) word }
     {
         let start = start_for(self.starts.as_slice(), self.shift, word);
         let x = share_of(word, self.total);

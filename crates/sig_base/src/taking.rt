@@ -53,7 +53,8 @@ fn read_more<S: Source>(source: &mut S, bytes: &mut Vec<u8>, filled: usize) -> R
     ensures kept { take filled bytes.new.items ≡ take filled bytes.old.items }
     ensures within { IfOk result (λ n. filled + n ≤ vec_len bytes.new) }
     ensures takes { IfOk result (λ n. Takes (S.seen source.old).left (S.seen source.new).left n) }
-    ensures shows { IfOk result (λ n. Shows (S.seen source.old).left n (drop filled bytes.new.items)) }
+    ensures shows { IfOk result
+        (λ n. Shows (S.seen source.old).left n (drop filled bytes.new.items)) }
     ensures end { IfOk result (λ n. n ≡ 0 → IsAtEnd (S.seen source.old).left) }
     ensures stays { OnErr result (Stays (S.seen source.old).left (S.seen source.new).left) }
     ensures steady { OnOk result ((S.seen source.new).faults ≡ (S.seen source.old).faults) }
@@ -76,12 +77,14 @@ pub fn take_all<S: Source>(alloc: Global, source: &mut S, limit: usize) -> Resul
         (limit < length bytes) × ((S.seen source.new).left ≡ Some (drop (limit + 1) bytes))) }
 
     // After every answer some bytes were taken from the front, over the limit only at `TooLong`.
-    ensures taken { (n : ℕ) × (n ≤ limit + 1) × Takes (S.seen source.old).left (S.seen source.new).left n
+    ensures taken { (n : ℕ) × (n ≤ limit + 1)
+        × Takes (S.seen source.old).left (S.seen source.new).left n
         × (IsErrOf result TakeError.TooLong ↔ (n ≡ limit + 1)) }
 
     ensures read_fault { IsErrOf result TakeError.ReadFault
         → HasRisen (S.seen source.old).faults (S.seen source.new).faults }
-    ensures steady { result ≢ Err TakeError.ReadFault → (S.seen source.new).faults ≡ (S.seen source.old).faults }
+    ensures steady { result ≢ Err TakeError.ReadFault
+        → (S.seen source.new).faults ≡ (S.seen source.old).faults }
 {
     let mut bytes = Vec::new(alloc);
     let mut filled = 0;

@@ -33,8 +33,12 @@ fn set_one(
     requires expression { PossibleExpression (graph_of model.now) (expression_of right.now) }
     requires inside { IsTrue (in_range (graph_of model.now) state.old) }
     requires soon { clk ≤ 2 ^ 48 }
-    ensures sets { with_ok state.new result ≡ set_all (graph_of model.now) clk (location_of target.now ∷ []) (expression_of right.now ∷ []) state.old }
-    ensures left { state.new ≡ left_by_set (graph_of model.now) clk (location_of target.now ∷ []) (expression_of right.now ∷ []) state.old }
+    ensures sets { with_ok state.new result
+        ≡ set_all (graph_of model.now) clk (location_of target.now ∷ [])
+        (expression_of right.now ∷ []) state.old }
+    ensures left { state.new
+        ≡ left_by_set (graph_of model.now) clk (location_of target.now ∷ [])
+        (expression_of right.now ∷ []) state.old }
     ensures stays { IsTrue (in_range (graph_of model.now) state.new) }
 {
     let value = value(model, right, state, clk)?;
@@ -58,8 +62,13 @@ fn set_two(
     requires right { PossibleExpression (graph_of model.now) (expression_of right.now) }
     requires inside { IsTrue (in_range (graph_of model.now) state.old) }
     requires soon { clk ≤ 2 ^ 48 }
-    ensures sets { with_ok state.new result ≡ set_all (graph_of model.now) clk (location_of first.now ∷ location_of second.now ∷ []) (expression_of left.now ∷ expression_of right.now ∷ []) state.old }
-    ensures left { state.new ≡ left_by_set (graph_of model.now) clk (location_of first.now ∷ location_of second.now ∷ []) (expression_of left.now ∷ expression_of right.now ∷ []) state.old }
+    ensures sets { with_ok state.new result
+        ≡ set_all (graph_of model.now) clk (location_of first.now ∷ location_of second.now ∷ [])
+        (expression_of left.now ∷ expression_of right.now ∷ []) state.old }
+    ensures left { state.new
+        ≡ left_by_set (graph_of model.now) clk
+        (location_of first.now ∷ location_of second.now ∷ [])
+        (expression_of left.now ∷ expression_of right.now ∷ []) state.old }
     ensures stays { IsTrue (in_range (graph_of model.now) state.new) }
 {
     let one = value(model, left, state, clk)?;
@@ -78,11 +87,16 @@ fn set_several(
     state: &mut State,
     clk: u64,
 ) -> Result<(), FaultKind>
-    requires possible { PossibleSet (graph_of model.now) (map location_of targets.now) (map expression_of rights.now) }
+    requires possible { PossibleSet (graph_of model.now) (map location_of targets.now)
+        (map expression_of rights.now) }
     requires inside { IsTrue (in_range (graph_of model.now) state.old) }
     requires soon { clk ≤ 2 ^ 48 }
-    ensures sets { with_ok state.new result ≡ set_all (graph_of model.now) clk (map location_of targets.now) (map expression_of rights.now) state.old }
-    ensures left { state.new ≡ left_by_set (graph_of model.now) clk (map location_of targets.now) (map expression_of rights.now) state.old }
+    ensures sets { with_ok state.new result
+        ≡ set_all (graph_of model.now) clk (map location_of targets.now)
+        (map expression_of rights.now) state.old }
+    ensures left { state.new
+        ≡ left_by_set (graph_of model.now) clk (map location_of targets.now)
+        (map expression_of rights.now) state.old }
     ensures stays { IsTrue (in_range (graph_of model.now) state.new) }
 {
     let mut values: ArrayVec<i64, TARGETS_MAX> = ArrayVec::new();
@@ -100,11 +114,16 @@ fn set(
     state: &mut State,
     clk: u64,
 ) -> Result<(), FaultKind>
-    requires possible { PossibleSet (graph_of model.now) (map location_of targets.now) (map expression_of rights.now) }
+    requires possible { PossibleSet (graph_of model.now) (map location_of targets.now)
+        (map expression_of rights.now) }
     requires inside { IsTrue (in_range (graph_of model.now) state.old) }
     requires soon { clk ≤ 2 ^ 48 }
-    ensures sets { with_ok state.new result ≡ set_all (graph_of model.now) clk (map location_of targets.now) (map expression_of rights.now) state.old }
-    ensures left { state.new ≡ left_by_set (graph_of model.now) clk (map location_of targets.now) (map expression_of rights.now) state.old }
+    ensures sets { with_ok state.new result
+        ≡ set_all (graph_of model.now) clk (map location_of targets.now)
+        (map expression_of rights.now) state.old }
+    ensures left { state.new
+        ≡ left_by_set (graph_of model.now) clk (map location_of targets.now)
+        (map expression_of rights.now) state.old }
     ensures stays { IsTrue (in_range (graph_of model.now) state.new) }
 {
     if let [target] = targets {
@@ -125,7 +144,9 @@ fn set(
 pub fn pick(model: &Model, stream: u8, choice: Choice, streams: &mut Streams) -> i64
     requires possible { PossibleSource (graph_of model.now) stream (choice_of choice) }
     requires countable { taken_from streams.old.taken stream < 2 ^ 62 }
-    ensures value { result ≡ drawn_value (graph_of model.now) (choice_of choice) (word streams.old.seed stream (taken_from streams.old.taken stream)) }
+    ensures value { result
+        ≡ drawn_value (graph_of model.now) (choice_of choice)
+        (word streams.old.seed stream (taken_from streams.old.taken stream)) }
     ensures seed { streams.new.seed ≡ streams.old.seed }
     ensures taken { streams.new.taken ≡ one_more streams.old.taken stream }
 {
@@ -145,17 +166,22 @@ fn draw(
     streams: &mut Streams,
     clk: u64,
 ) -> Result<(), FaultKind>
-    requires possible { PossibleDraw (graph_of model.now) (location_of target.now) stream (choice_of choice) }
+    requires possible { PossibleDraw (graph_of model.now) (location_of target.now) stream
+        (choice_of choice) }
     requires inside { IsTrue (in_range (graph_of model.now) state.old) }
     requires countable { taken_from streams.old.taken stream < 2 ^ 62 }
     requires soon { clk ≤ 2 ^ 48 }
     ensures makes { with_ok (record { state = state.new; taken = streams.new.taken }) result
-        ≡ make_change (graph_of model.now) streams.old.seed clk (Draw (location_of target.now) stream (choice_of choice)) (record { state = state.old; taken = streams.old.taken }) }
+        ≡ make_change (graph_of model.now) streams.old.seed clk
+        (Draw (location_of target.now) stream (choice_of choice))
+        (record { state = state.old; taken = streams.old.taken }) }
     ensures left { record { state = state.new; taken = streams.new.taken }
-        ≡ left_by_draw (graph_of model.now) streams.old.seed clk (location_of target.now) stream (choice_of choice) (record { state = state.old; taken = streams.old.taken }) }
+        ≡ left_by_draw (graph_of model.now) streams.old.seed clk (location_of target.now) stream
+        (choice_of choice) (record { state = state.old; taken = streams.old.taken }) }
     ensures stays { IsTrue (in_range (graph_of model.now) state.new) }
     ensures seed { streams.new.seed ≡ streams.old.seed }
-    ensures counted { (stream : ℕ) → taken_from streams.new.taken stream ≤ taken_from streams.old.taken stream + 1 }
+    ensures counted { (stream : ℕ)
+        → taken_from streams.new.taken stream ≤ taken_from streams.old.taken stream + 1 }
 {
     let place = place(model, target, state, clk)?;
     let value = pick(model, stream, choice, streams);
@@ -175,12 +201,15 @@ fn make(
     requires countable { (stream : ℕ) → taken_from streams.old.taken stream < 2 ^ 62 }
     requires soon { clk ≤ 2 ^ 48 }
     ensures makes { with_ok (record { state = state.new; taken = streams.new.taken }) result
-        ≡ make_change (graph_of model.now) streams.old.seed clk (change_of change.now) (record { state = state.old; taken = streams.old.taken }) }
+        ≡ make_change (graph_of model.now) streams.old.seed clk (change_of change.now)
+        (record { state = state.old; taken = streams.old.taken }) }
     ensures left { record { state = state.new; taken = streams.new.taken }
-        ≡ left_by_change (graph_of model.now) streams.old.seed clk (change_of change.now) (record { state = state.old; taken = streams.old.taken }) }
+        ≡ left_by_change (graph_of model.now) streams.old.seed clk (change_of change.now)
+        (record { state = state.old; taken = streams.old.taken }) }
     ensures stays { IsTrue (in_range (graph_of model.now) state.new) }
     ensures seed { streams.new.seed ≡ streams.old.seed }
-    ensures counted { (stream : ℕ) → taken_from streams.new.taken stream ≤ taken_from streams.old.taken stream + 1 }
+    ensures counted { (stream : ℕ)
+        → taken_from streams.new.taken stream ≤ taken_from streams.old.taken stream + 1 }
 {
     match change {
         Change::Set { targets, values } => set(
@@ -213,12 +242,16 @@ pub fn apply(
     requires countable { (stream : ℕ) → taken_from streams.old.taken stream < 2 ^ 61 }
     requires soon { clk ≤ 2 ^ 48 }
     ensures makes { with_ok (record { state = state.new; taken = streams.new.taken }) result
-        ≡ in_turn (make_change (graph_of model.now) streams.old.seed clk) (map change_of changes.now) (record { state = state.old; taken = streams.old.taken }) }
+        ≡ in_turn (make_change (graph_of model.now) streams.old.seed clk)
+        (map change_of changes.now) (record { state = state.old; taken = streams.old.taken }) }
     ensures left { record { state = state.new; taken = streams.new.taken }
-        ≡ left_by_changes (graph_of model.now) streams.old.seed clk (map change_of changes.now) (record { state = state.old; taken = streams.old.taken }) }
+        ≡ left_by_changes (graph_of model.now) streams.old.seed clk (map change_of changes.now)
+        (record { state = state.old; taken = streams.old.taken }) }
     ensures stays { IsTrue (in_range (graph_of model.now) state.new) }
     ensures seed { streams.new.seed ≡ streams.old.seed }
-    ensures counted { (stream : ℕ) → taken_from streams.new.taken stream ≤ taken_from streams.old.taken stream + length changes.now }
+    ensures counted { (stream : ℕ)
+        → taken_from streams.new.taken stream
+        ≤ taken_from streams.old.taken stream + length changes.now }
 {
     for change in changes.as_slice() {
         make(model, change, state, streams, clk)?;

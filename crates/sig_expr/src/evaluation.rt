@@ -24,7 +24,8 @@ fn scalar(model: &Model, var: usize, state: &State) -> i64
 /// The place of a cell of an array, whose index is from 0 up to the array's size.
 pub fn cell_index(model: &Model, var: usize, index: i64) -> Result<usize, FaultKind>
     requires known { var < length model.now.vars }
-    ensures { map_ok (λ i. record { variable = var; index = i }) result ≡ indexed (graph_of model.now) var index }
+    ensures { map_ok (λ i. record { variable = var; index = i }) result
+        ≡ indexed (graph_of model.now) var index }
 {
     let size = model.vars.as_slice()[var].size;
     if index < 0 || index as usize >= size {
@@ -37,7 +38,8 @@ pub fn cell_index(model: &Model, var: usize, index: i64) -> Result<usize, FaultK
 fn cell(model: &Model, var: usize, index: i64, state: &State) -> Result<i64, FaultKind>
     requires known { var < length model.now.vars }
     requires inside { IsTrue (in_range (graph_of model.now) state.now) }
-    ensures { result ≡ and_then (indexed (graph_of model.now) var index) (λ p. Ok (cell_at state.now p)) }
+    ensures { result
+        ≡ and_then (indexed (graph_of model.now) var index) (λ p. Ok (cell_at state.now p)) }
 {
     let index = cell_index(model, var, index)?;
     Ok(state.cell(var, index))
@@ -56,7 +58,9 @@ fn other_truth(a: i64) -> i64
 fn plain_value(model: &Model, expr: &Expr, state: &State) -> Option<i64>
     requires possible { PossibleExpression (graph_of model.now) (expression_of expr.now) }
     requires inside { IsTrue (in_range (graph_of model.now) state.now) }
-    ensures { (clk : ℕ) → IfSome result (λ x. value_of (graph_of model.now) state.now clk (expression_of expr.now) ≡ Ok x) }
+    ensures { (clk : ℕ)
+        → IfSome result
+        (λ x. value_of (graph_of model.now) state.now clk (expression_of expr.now) ≡ Ok x) }
 {
     if let Expr::Scalar(var) = expr {
         return Some(scalar(model, *var, state));
@@ -73,7 +77,9 @@ fn plain_value(model: &Model, expr: &Expr, state: &State) -> Option<i64>
 fn operator_value(model: &Model, expr: &Expr, state: &State) -> Option<i64>
     requires possible { PossibleExpression (graph_of model.now) (expression_of expr.now) }
     requires inside { IsTrue (in_range (graph_of model.now) state.now) }
-    ensures { (clk : ℕ) → IfSome result (λ x. value_of (graph_of model.now) state.now clk (expression_of expr.now) ≡ Ok x) }
+    ensures { (clk : ℕ)
+        → IfSome result
+        (λ x. value_of (graph_of model.now) state.now clk (expression_of expr.now) ≡ Ok x) }
 {
     let Expr::Binary(op, left, right) = expr else {
         return None;

@@ -26,10 +26,12 @@ pub fn put_values<const N: usize>(
 ) -> Result<(), FaultKind>
     requires empty { values.old.items ≡ [] }
     requires few { length exprs.now ≤ N }
-    requires possible { All (PossibleExpression (graph_of model.now)) (map expression_of exprs.now) }
+    requires possible { All (PossibleExpression (graph_of model.now))
+        (map expression_of exprs.now) }
     requires inside { IsTrue (in_range (graph_of model.now) state.now) }
     requires soon { clk ≤ 2 ^ 48 }
-    ensures { with_ok values.new.items result ≡ each (value_of (graph_of model.now) state.now clk) (map expression_of exprs.now) }
+    ensures { with_ok values.new.items result
+        ≡ each (value_of (graph_of model.now) state.now clk) (map expression_of exprs.now) }
 {
     for expr in exprs {
         values.push(value(model, expr, state, clk)?);
@@ -67,7 +69,8 @@ pub fn put_places(
     requires possible { All (PossibleLocation (graph_of model.now)) (map location_of targets.now) }
     requires inside { IsTrue (in_range (graph_of model.now) state.now) }
     requires soon { clk ≤ 2 ^ 48 }
-    ensures { with_ok places.new.items result ≡ each (place_of (graph_of model.now) state.now clk) (map location_of targets.now) }
+    ensures { with_ok places.new.items result
+        ≡ each (place_of (graph_of model.now) state.now clk) (map location_of targets.now) }
 {
     for target in targets {
         places.push(place(model, target, state, clk)?);

@@ -38,7 +38,8 @@ fn put_kept(
     requires declared { var < length model.now.vars }
     requires exists { var < length state.old }
     requires inside { index < length (cells_of state.old var) }
-    ensures stores { with_ok state.new result ≡ store (graph_of model.now) (record { variable = var; index = index }, value) state.old }
+    ensures stores { with_ok state.new result
+        ≡ store (graph_of model.now) (record { variable = var; index = index }, value) state.old }
     ensures fault { OnErr result (state.new ≡ state.old) }
 {
     let kept = kept(&model.vars.as_slice()[var], value)?;
@@ -58,10 +59,12 @@ pub fn store(
     requires declared { var < length model.now.vars }
     requires exists { var < length state.old }
     requires inside { index < length (cells_of state.old var) }
-    ensures stores { with_ok state.new result ≡ store (graph_of model.now) (record { variable = var; index = index }, value) state.old }
+    ensures stores { with_ok state.new result
+        ≡ store (graph_of model.now) (record { variable = var; index = index }, value) state.old }
     ensures fault { OnErr result (state.new ≡ state.old) }
     // A state in range stays so.
-    ensures stays { IsTrue (in_range (graph_of model.now) state.old) → IsTrue (in_range (graph_of model.now) state.new) }
+    ensures stays { IsTrue (in_range (graph_of model.now) state.old)
+        → IsTrue (in_range (graph_of model.now) state.new) }
 {
     put_kept(model, var, index, value, state)
 }
@@ -70,7 +73,8 @@ pub fn store(
 pub fn store_at(model: &Model, place: Place, value: i64, state: &mut State) -> Result<(), FaultKind>
     requires place { DeclaredPlace (graph_of model.now) place }
     requires inside { IsTrue (in_range (graph_of model.now) state.old) }
-    ensures stores { with_ok state.new result ≡ store (graph_of model.now) (place, value) state.old }
+    ensures stores { with_ok state.new result
+        ≡ store (graph_of model.now) (place, value) state.old }
     ensures fault { OnErr result (state.new ≡ state.old) }
     ensures stays { IsTrue (in_range (graph_of model.now) state.new) }
 {
@@ -87,8 +91,10 @@ pub fn store_all(
     requires matched { length values.now ≡ length places.now }
     requires places { All (DeclaredPlace (graph_of model.now)) places.now }
     requires inside { IsTrue (in_range (graph_of model.now) state.old) }
-    ensures stores { with_ok state.new result ≡ in_turn (store (graph_of model.now)) (zip places.now values.now) state.old }
-    ensures left { state.new ≡ left_by_stores (graph_of model.now) (zip places.now values.now) state.old }
+    ensures stores { with_ok state.new result
+        ≡ in_turn (store (graph_of model.now)) (zip places.now values.now) state.old }
+    ensures left { state.new
+        ≡ left_by_stores (graph_of model.now) (zip places.now values.now) state.old }
     ensures stays { IsTrue (in_range (graph_of model.now) state.new) }
 {
     for i in 0..places.len() {

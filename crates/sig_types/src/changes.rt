@@ -36,7 +36,12 @@ fn index(
     raw: &Option<RawExpr>,
     told: &mut FirstFault,
 ) -> Result<Option<Expr>, NoMemory>
-    ensures { IfOk result (λ i. CheckedPart (meaning_of names.now) told.old told.new (if_written (operand_faults (meaning_of names.now) (Some kinds.Range)) (option_map written_expression raw.now)) (λ d. written_or (λ e. option_map (λ x. Some x) (numbering.expression d e)) None (option_map written_expression raw.now)) (option_map expression_of i)) }
+    ensures { IfOk result
+        (λ i. CheckedPart (meaning_of names.now) told.old told.new
+        (if_written (operand_faults (meaning_of names.now) (Some kinds.Range))
+        (option_map written_expression raw.now))
+        (λ d. written_or (λ e. option_map (λ x. Some x) (numbering.expression d e)) None
+        (option_map written_expression raw.now)) (option_map expression_of i)) }
 {
     let Some(raw) = raw else {
         return Ok(None);
@@ -52,8 +57,12 @@ fn target(
     raw: &RawTarget,
     told: &mut FirstFault,
 ) -> Result<Typed<Target>, NoMemory>
-    ensures checked { IfOk result (λ t. CheckedPart (meaning_of names.now) told.old told.new (target_faults (meaning_of names.now) (written_target raw.now)) (λ d. numbering.location d (written_target raw.now)) (location_of t.part)) }
-    ensures kind { IfOk result (λ t. t.kind ≡ target_kind (meaning_of names.now) (written_target raw.now)) }
+    ensures checked { IfOk result
+        (λ t. CheckedPart (meaning_of names.now) told.old told.new
+        (target_faults (meaning_of names.now) (written_target raw.now))
+        (λ d. numbering.location d (written_target raw.now)) (location_of t.part)) }
+    ensures kind { IfOk result
+        (λ t. t.kind ≡ target_kind (meaning_of names.now) (written_target raw.now)) }
 {
     let var = variable(names, raw.index.is_some(), &raw.name, told);
     let index = index(alloc, names, &raw.index, told)?;
@@ -80,8 +89,14 @@ fn all_targets(
     raws: &[RawTarget],
     told: &mut FirstFault,
 ) -> Result<TypedTargets, NoMemory>
-    ensures checked { IfOk result (λ t. CheckedPart (meaning_of names.now) told.old told.new (flat_map (target_faults (meaning_of names.now)) (map written_target raws.now)) (λ d. each_numbered (numbering.location d) (map written_target raws.now)) (map location_of t.targets)) }
-    ensures kinds { IfOk result (λ t. t.kinds.items ≡ map (target_kind (meaning_of names.now)) (map written_target raws.now)) }
+    ensures checked { IfOk result
+        (λ t. CheckedPart (meaning_of names.now) told.old told.new
+        (flat_map (target_faults (meaning_of names.now)) (map written_target raws.now))
+        (λ d. each_numbered (numbering.location d) (map written_target raws.now))
+        (map location_of t.targets)) }
+    ensures kinds { IfOk result
+        (λ t. t.kinds.items
+        ≡ map (target_kind (meaning_of names.now)) (map written_target raws.now)) }
 {
     let mut targets = Vec::with_capacity(alloc, raws.len())?;
     let mut kinds = Vec::with_capacity(alloc, raws.len())?;
@@ -112,7 +127,11 @@ pub(crate) fn values(
     raws: &[RawExpr],
     told: &mut FirstFault,
 ) -> Result<List<Expr>, NoMemory>
-    ensures { IfOk result (λ es. CheckedPart (meaning_of names.now) told.old told.new (values_faults (meaning_of names.now) kinds.now (map written_expression raws.now)) (λ d. each_numbered (numbering.expression d) (map written_expression raws.now)) (map expression_of es)) }
+    ensures { IfOk result
+        (λ es. CheckedPart (meaning_of names.now) told.old told.new
+        (values_faults (meaning_of names.now) kinds.now (map written_expression raws.now))
+        (λ d. each_numbered (numbering.expression d) (map written_expression raws.now))
+        (map expression_of es)) }
 {
     let mut values = Vec::with_capacity(alloc, raws.len())?;
     for (i, raw) in raws.iter().enumerate() {
@@ -130,7 +149,13 @@ fn set_one(
     raws: &[RawExpr],
     told: &mut FirstFault,
 ) -> Result<Change, NoMemory>
-    ensures { IfOk result (λ c. CheckedPart (meaning_of names.now) told.old told.new (stored_faults (meaning_of names.now) (written_target raw.now ∷ []) (map written_expression raws.now)) (λ d. numbering.change d (written.Set 0 (written_target raw.now ∷ []) (map written_expression raws.now))) (change_of c)) }
+    ensures { IfOk result
+        (λ c. CheckedPart (meaning_of names.now) told.old told.new
+        (stored_faults (meaning_of names.now) (written_target raw.now ∷ [])
+        (map written_expression raws.now))
+        (λ d. numbering.change d
+        (written.Set 0 (written_target raw.now ∷ []) (map written_expression raws.now)))
+        (change_of c)) }
 {
     let typed = target(alloc, names, raw, told)?;
     let targets = List::of_one(alloc, typed.part)?;
@@ -146,7 +171,13 @@ fn set_all(
     raws: &[RawExpr],
     told: &mut FirstFault,
 ) -> Result<Change, NoMemory>
-    ensures { IfOk result (λ c. CheckedPart (meaning_of names.now) told.old told.new (stored_faults (meaning_of names.now) (map written_target targets.now) (map written_expression raws.now)) (λ d. numbering.change d (written.Set 0 (map written_target targets.now) (map written_expression raws.now))) (change_of c)) }
+    ensures { IfOk result
+        (λ c. CheckedPart (meaning_of names.now) told.old told.new
+        (stored_faults (meaning_of names.now) (map written_target targets.now)
+        (map written_expression raws.now))
+        (λ d. numbering.change d
+        (written.Set 0 (map written_target targets.now) (map written_expression raws.now)))
+        (change_of c)) }
 {
     let typed = all_targets(alloc, names, targets, told)?;
     let values = values(alloc, names, typed.kinds.as_slice(), raws, told)?;
@@ -162,7 +193,13 @@ fn stored(
     raws: &[RawExpr],
     told: &mut FirstFault,
 ) -> Result<Change, NoMemory>
-    ensures { IfOk result (λ c. CheckedPart (meaning_of names.now) told.old told.new (stored_faults (meaning_of names.now) (map written_target targets.now) (map written_expression raws.now)) (λ d. numbering.change d (written.Set 0 (map written_target targets.now) (map written_expression raws.now))) (change_of c)) }
+    ensures { IfOk result
+        (λ c. CheckedPart (meaning_of names.now) told.old told.new
+        (stored_faults (meaning_of names.now) (map written_target targets.now)
+        (map written_expression raws.now))
+        (λ d. numbering.change d
+        (written.Set 0 (map written_target targets.now) (map written_expression raws.now)))
+        (change_of c)) }
 {
     if targets.len() == 1 {
         set_one(alloc, names, &targets[0], raws, told)
@@ -180,7 +217,13 @@ fn set(
     raws: &[RawExpr],
     told: &mut FirstFault,
 ) -> Result<Change, NoMemory>
-    ensures { IfOk result (λ c. CheckedPart (meaning_of names.now) told.old told.new (change_faults (meaning_of names.now) (written.Set at (map written_target targets.now) (map written_expression raws.now))) (λ d. numbering.change d (written.Set at (map written_target targets.now) (map written_expression raws.now))) (change_of c)) }
+    ensures { IfOk result
+        (λ c. CheckedPart (meaning_of names.now) told.old told.new
+        (change_faults (meaning_of names.now)
+        (written.Set at (map written_target targets.now) (map written_expression raws.now)))
+        (λ d. numbering.change d
+        (written.Set at (map written_target targets.now) (map written_expression raws.now)))
+        (change_of c)) }
 {
     let differs = targets.len() != raws.len();
     told.note(differs, StaticKind::ValueCount, at);
@@ -191,7 +234,9 @@ fn set(
 
 /// What a draw takes its value from.
 fn choice(names: &Names, raw: &RawChoice, told: &mut FirstFault) -> Choice
-    ensures { CheckedPart (meaning_of names.now) told.old told.new (choice_faults (meaning_of names.now) (written_choice raw.now)) (λ d. numbering.choice d (written_choice raw.now)) (choice_of result) }
+    ensures { CheckedPart (meaning_of names.now) told.old told.new
+        (choice_faults (meaning_of names.now) (written_choice raw.now))
+        (λ d. numbering.choice d (written_choice raw.now)) (choice_of result) }
 {
     match raw {
         RawChoice::Uniform { lo, hi } => {
@@ -217,7 +262,12 @@ pub fn source(
     from: &RawChoice,
     told: &mut FirstFault,
 ) -> (u8, Choice)
-    ensures { Checked told.old told.new (source_faults (meaning_of names.now) (written_number stream.now) (written_choice from.now)) ((natural (written_number stream.now) ≡ Some result.0) × NumberedAs (meaning_of names.now) (λ d. numbering.choice d (written_choice from.now)) (choice_of result.1)) }
+    ensures { Checked told.old told.new
+        (source_faults (meaning_of names.now) (written_number stream.now)
+        (written_choice from.now))
+        ((natural (written_number stream.now) ≡ Some result.0)
+        × NumberedAs (meaning_of names.now) (λ d. numbering.choice d (written_choice from.now))
+        (choice_of result.1)) }
 {
     let stream = bounded(stream, 0, 63, StaticKind::StreamOutside, told);
     let choice = choice(names, from, told);
@@ -233,7 +283,14 @@ fn draw(
     from: &RawChoice,
     told: &mut FirstFault,
 ) -> Result<Change, NoMemory>
-    ensures { IfOk result (λ c. CheckedPart (meaning_of names.now) told.old told.new (change_faults (meaning_of names.now) (written.Draw 0 (written_target raw.now) (written_number stream.now) (written_choice from.now))) (λ d. numbering.change d (written.Draw 0 (written_target raw.now) (written_number stream.now) (written_choice from.now))) (change_of c)) }
+    ensures { IfOk result
+        (λ c. CheckedPart (meaning_of names.now) told.old told.new
+        (change_faults (meaning_of names.now)
+        (written.Draw 0 (written_target raw.now) (written_number stream.now)
+        (written_choice from.now)))
+        (λ d. numbering.change d
+        (written.Draw 0 (written_target raw.now) (written_number stream.now)
+        (written_choice from.now))) (change_of c)) }
 {
     let drawn = target(alloc, names, raw, told)?;
     let differs = kinds_differ(Some(Kind::Range), drawn.kind);
@@ -253,7 +310,10 @@ fn change(
     raw: &RawChange,
     told: &mut FirstFault,
 ) -> Result<Change, NoMemory>
-    ensures { IfOk result (λ c. CheckedPart (meaning_of names.now) told.old told.new (change_faults (meaning_of names.now) (written_change raw.now)) (λ d. numbering.change d (written_change raw.now)) (change_of c)) }
+    ensures { IfOk result
+        (λ c. CheckedPart (meaning_of names.now) told.old told.new
+        (change_faults (meaning_of names.now) (written_change raw.now))
+        (λ d. numbering.change d (written_change raw.now)) (change_of c)) }
 {
     match raw {
         RawChange::Set {
@@ -284,7 +344,11 @@ pub fn changes(
     raws: &[RawChange],
     told: &mut FirstFault,
 ) -> Result<List<Change>, NoMemory>
-    ensures { IfOk result (λ cs. CheckedPart (meaning_of names.now) told.old told.new (flat_map (change_faults (meaning_of names.now)) (map written_change raws.now)) (λ d. each_numbered (numbering.change d) (map written_change raws.now)) (map change_of cs)) }
+    ensures { IfOk result
+        (λ cs. CheckedPart (meaning_of names.now) told.old told.new
+        (flat_map (change_faults (meaning_of names.now)) (map written_change raws.now))
+        (λ d. each_numbered (numbering.change d) (map written_change raws.now))
+        (map change_of cs)) }
 {
     let mut changes = Vec::with_capacity(alloc, raws.len())?;
     for raw in raws {

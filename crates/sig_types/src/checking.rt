@@ -36,8 +36,11 @@ use std::alloc::Global;
 
 /// The names that a model declares. Those that are declared again are reported.
 fn names_of(alloc: Global, raw: &RawModel, told: &mut FirstFault) -> Result<Names, NoMemory>
-    ensures means { IfOk result (λ names. meaning_of names ≡ model_meaning (written_model raw.now)) }
-    ensures told { OnOk result (told.new ≡ earliest_fault told.old (repeated_names [] (map declared_name (declarations (written_model raw.now))))) }
+    ensures means { IfOk result
+        (λ names. meaning_of names ≡ model_meaning (written_model raw.now)) }
+    ensures told { OnOk result
+        (told.new ≡ earliest_fault told.old
+        (repeated_names [] (map declared_name (declarations (written_model raw.now))))) }
 {
     let count = raw.vars.len().saturating_add(raw.tables.len());
     let mut names = Names::with_capacity(alloc, count.saturating_add(raw.vertices.len()))?;
@@ -58,8 +61,10 @@ fn report_counts(raw: &RawModel, told: &mut FirstFault)
 
 /// The names that a model declares. Faults of its own name are reported, and names declared again, and declarations too many.
 pub fn declared(alloc: Global, raw: &RawModel, told: &mut FirstFault) -> Result<Names, NoMemory>
-    ensures means { IfOk result (λ names. meaning_of names ≡ model_meaning (written_model raw.now)) }
-    ensures told { OnOk result (told.new ≡ earliest_fault told.old (faults_of_declared (written_model raw.now))) }
+    ensures means { IfOk result
+        (λ names. meaning_of names ≡ model_meaning (written_model raw.now)) }
+    ensures told { OnOk result
+        (told.new ≡ earliest_fault told.old (faults_of_declared (written_model raw.now))) }
 {
     report_long_name(&raw.name, told);
     let names = names_of(alloc, raw, told)?;
@@ -85,9 +90,15 @@ pub fn check_lists(
     told: &mut FirstFault,
 ) -> Result<CheckedLists, NoMemory>
     ensures { IfOk result (λ lists. (first : Option StaticFault) × (second : Option StaticFault)
-        × CheckedPlain told.old first (flat_map variable_faults (map written_variable vars)) (each_numbered numbering.variable (map written_variable vars)) (map variable_of lists.vars)
-        × CheckedPlain first second (flat_map table_faults (map written_table tables)) (each_numbered numbering.table (map written_table tables)) (map table_of lists.tables)
-        × CheckedPart (meaning_of names.now) second told.new (flat_map (use_faults (meaning_of names.now) AsWatched) (map written_name watch.now) ++ repeated_names [] (map written_name watch.now)) (λ d. each_numbered (numbering.watched d) (map written_name watch.now)) (map watched_of lists.watch)) }
+        × CheckedPlain told.old first (flat_map variable_faults (map written_variable vars))
+        (each_numbered numbering.variable (map written_variable vars)) (map variable_of lists.vars)
+        × CheckedPlain first second (flat_map table_faults (map written_table tables))
+        (each_numbered numbering.table (map written_table tables)) (map table_of lists.tables)
+        × CheckedPart (meaning_of names.now) second told.new
+        (flat_map (use_faults (meaning_of names.now) AsWatched) (map written_name watch.now)
+        ++ repeated_names [] (map written_name watch.now))
+        (λ d. each_numbered (numbering.watched d) (map written_name watch.now))
+        (map watched_of lists.watch)) }
 {
     let vars = check_variables(alloc, vars, told)?;
     let tables = check_tables(alloc, tables, told)?;
@@ -108,9 +119,13 @@ fn numbered_among(
     raw: RawModel,
     told: &mut FirstFault,
 ) -> Result<Model, NoMemory>
-    ensures { IfOk result (λ model. meaning_of names.now ≡ model_meaning (written_model raw) → taken.now ≡ model_takes (written_model raw)
-        → (start : Option StaticFault) → told.old ≡ earliest_fault start (faults_of_declared (written_model raw))
-        → Checked start told.new (faults_of_parts (written_model raw)) (numbering.numbered (written_model raw) ≡ Some (graph_of model))) }
+    ensures { IfOk result
+        (λ model. meaning_of names.now ≡ model_meaning (written_model raw)
+        → taken.now ≡ model_takes (written_model raw)
+        → (start : Option StaticFault)
+        → told.old ≡ earliest_fault start (faults_of_declared (written_model raw))
+        → Checked start told.new (faults_of_parts (written_model raw))
+        (numbering.numbered (written_model raw) ≡ Some (graph_of model))) }
 {
     let lists = check_lists(alloc, names, raw.vars, raw.tables, items(&raw.watch), told)?;
     let vertices = vertices(alloc, names, taken, raw.vertices, told)?;
@@ -136,9 +151,11 @@ fn names_and_kinds(
     raw: &RawModel,
     told: &mut FirstFault,
 ) -> Result<NamesAndKinds, NoMemory>
-    ensures means { IfOk result (λ known. meaning_of known.names ≡ model_meaning (written_model raw.now)) }
+    ensures means { IfOk result
+        (λ known. meaning_of known.names ≡ model_meaning (written_model raw.now)) }
     ensures takes { IfOk result (λ known. known.taken ≡ model_takes (written_model raw.now)) }
-    ensures told { OnOk result (told.new ≡ earliest_fault told.old (faults_of_declared (written_model raw.now))) }
+    ensures told { OnOk result
+        (told.new ≡ earliest_fault told.old (faults_of_declared (written_model raw.now))) }
 {
     let names = declared(alloc, raw, told)?;
     let taken = taken(alloc, &names, raw.vertices.as_slice())?;
@@ -147,7 +164,9 @@ fn names_and_kinds(
 
 /// The model with numbers in place of names. Where it has a fault, nothing is said of what is given.
 fn numbered(alloc: Global, raw: RawModel, told: &mut FirstFault) -> Result<Model, NoMemory>
-    ensures { IfOk result (λ model. Checked told.old told.new (faults_of_parts (written_model raw)) (numbering.numbered (written_model raw) ≡ Some (graph_of model))) }
+    ensures { IfOk result
+        (λ model. Checked told.old told.new (faults_of_parts (written_model raw))
+        (numbering.numbered (written_model raw) ≡ Some (graph_of model))) }
 {
     let known = names_and_kinds(alloc, &raw, told)?;
     numbered_among(alloc, &known.names, known.taken.as_slice(), raw, told)
@@ -162,7 +181,9 @@ fn is_too_long(model: &Model) -> bool
 
 /// Where no other fault was found, reports that the canonical text of a model has too many bytes.
 pub fn report_long_text(model: &Model, end_at: usize, told: &mut FirstFault)
-    ensures none { told.old ≡ None → told.new ≡ earliest_fault None (model_too_long TEXT_MAX (canonical (graph_of model.now)) end_at) }
+    ensures none { told.old ≡ None
+        → told.new ≡ earliest_fault None
+        (model_too_long TEXT_MAX (canonical (graph_of model.now)) end_at) }
     ensures some { (f : StaticFault) → told.old ≡ Some f → told.new ≡ told.old }
 {
     if told.fault().is_none() {
@@ -174,7 +195,9 @@ pub fn report_long_text(model: &Model, end_at: usize, told: &mut FirstFault)
 fn model_with_faults(alloc: Global, raw: RawModel, told: &mut FirstFault) -> Result<Model, NoMemory>
     requires { told.old ≡ None }
     ensures told { OnOk result (told.new ≡ first_fault (written_model raw)) }
-    ensures numbered { IfOk result (λ model. faults_of_parts (written_model raw) ≡ [] → numbering.numbered (written_model raw) ≡ Some (graph_of model)) }
+    ensures numbered { IfOk result
+        (λ model. faults_of_parts (written_model raw) ≡ []
+        → numbering.numbered (written_model raw) ≡ Some (graph_of model)) }
 {
     let end_at = raw.end_at;
     report_version(&raw, told);
@@ -189,7 +212,8 @@ pub fn check(alloc: Global, raw: RawModel) -> Result<Model, StaticError>
     // What is accepted is numbered as it is written, and breaks no rule.
     ensures accepted { IfOk result (λ model. Accepted (written_model raw) (graph_of model)) }
     // The rule is broken, at the least place, and there no rule before it in the table is.
-    ensures told { (kind : Rule) (at : ℕ) → result ≡ Err (errors.Fault kind at) → IsFirstFault (written_model raw) kind at }
+    ensures told { (kind : Rule) (at : ℕ) → result ≡ Err (errors.Fault kind at)
+        → IsFirstFault (written_model raw) kind at }
 {
     let mut told = FirstFault::new();
     let model = model_with_faults(alloc, raw, &mut told)?;

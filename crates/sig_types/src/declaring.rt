@@ -28,7 +28,8 @@ pub trait Declares {
 
     /// The name that it declares.
     fn name(&self) -> &RawName
-        ensures { (place : ℕ) → (declaration place (written self.now)).name ≡ written_name result.now };
+        ensures { (place : ℕ)
+            → (declaration place (written self.now)).name ≡ written_name result.now };
 
     /// What its name means, where it is at this place among parts of its kind.
     fn meaning(&self, place: usize) -> Meaning
@@ -42,8 +43,12 @@ pub(crate) fn declare_all<T: Declares>(
     parts: &[T],
     told: &mut FirstFault,
 ) -> Result<(), NoMemory>
-    ensures means { OnOk result (meaning_of names.new ≡ meaning_of (names.old ++ declarations_from T.declaration 0 (map T.written parts.now))) }
-    ensures told { OnOk result (told.new ≡ earliest_fault told.old (redeclared names.old (declarations_from T.declaration 0 (map T.written parts.now)))) }
+    ensures means { OnOk result
+        (meaning_of names.new
+        ≡ meaning_of (names.old ++ declarations_from T.declaration 0 (map T.written parts.now))) }
+    ensures told { OnOk result
+        (told.new ≡ earliest_fault told.old
+        (redeclared names.old (declarations_from T.declaration 0 (map T.written parts.now)))) }
 {
     for (place, part) in parts.iter().enumerate() {
         let meaning = part.meaning(place);

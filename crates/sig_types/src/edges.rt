@@ -46,7 +46,12 @@ fn condition(
     raw: &Option<RawExpr>,
     told: &mut FirstFault,
 ) -> Result<Expr, NoMemory>
-    ensures { IfOk result (λ e. CheckedPart (meaning_of names.now) told.old told.new (if_written (operand_faults (meaning_of names.now) (Some kinds.Truth)) (option_map written_expression raw.now)) (λ d. written_or (numbering.expression d) (Truth true) (option_map written_expression raw.now)) (expression_of e)) }
+    ensures { IfOk result
+        (λ e. CheckedPart (meaning_of names.now) told.old told.new
+        (if_written (operand_faults (meaning_of names.now) (Some kinds.Truth))
+        (option_map written_expression raw.now))
+        (λ d. written_or (numbering.expression d) (Truth true)
+        (option_map written_expression raw.now)) (expression_of e)) }
 {
     let Some(raw) = raw else {
         return Ok(Expr::Truth(true));
@@ -63,7 +68,11 @@ fn delay(
     raw: &RawDelay,
     told: &mut FirstFault,
 ) -> Result<Delay, NoMemory>
-    ensures { IfOk result (λ w. (taken : List (List (Option KnownKind))) → CheckedPart (meaning_of names.now) told.old told.new (delay_faults (meaning_of names.now) taken (written_delay raw.now)) (λ d. numbering.delay d (written_delay raw.now)) (edge_delay_of w)) }
+    ensures { IfOk result
+        (λ w. (taken : List (List (Option KnownKind)))
+        → CheckedPart (meaning_of names.now) told.old told.new
+        (delay_faults (meaning_of names.now) taken (written_delay raw.now))
+        (λ d. numbering.delay d (written_delay raw.now)) (edge_delay_of w)) }
 {
     match raw {
         RawDelay::Fixed(raw) => {
@@ -84,7 +93,12 @@ fn after(
     raw: &Option<RawDelay>,
     told: &mut FirstFault,
 ) -> Result<Delay, NoMemory>
-    ensures { IfOk result (λ w. (taken : List (List (Option KnownKind))) → CheckedPart (meaning_of names.now) told.old told.new (if_written (delay_faults (meaning_of names.now) taken) (option_map written_delay raw.now)) (λ d. written_or (numbering.delay d) (Fixed (Number (pos 0))) (option_map written_delay raw.now)) (edge_delay_of w)) }
+    ensures { IfOk result
+        (λ w. (taken : List (List (Option KnownKind)))
+        → CheckedPart (meaning_of names.now) told.old told.new
+        (if_written (delay_faults (meaning_of names.now) taken) (option_map written_delay raw.now))
+        (λ d. written_or (numbering.delay d) (Fixed (Number (pos 0)))
+        (option_map written_delay raw.now)) (edge_delay_of w)) }
 {
     match raw {
         Some(raw) => delay(alloc, names, raw, told),
@@ -94,7 +108,9 @@ fn after(
 
 /// A priority: 5 where none is written.
 fn priority_of(raw: &Option<RawNumber>, told: &mut FirstFault) -> u8
-    ensures { CheckedPlain told.old told.new (if_written priority_faults (option_map written_number raw.now)) (written_or natural 5 (option_map written_number raw.now)) result }
+    ensures { CheckedPlain told.old told.new
+        (if_written priority_faults (option_map written_number raw.now))
+        (written_or natural 5 (option_map written_number raw.now)) result }
 {
     match raw {
         Some(raw) => bounded(raw, 1, 255, StaticKind::PriorityOutside, told) as u8,
@@ -109,7 +125,11 @@ fn form(
     raw: &RawEdgeForm,
     told: &mut FirstFault,
 ) -> Result<EdgeForm, NoMemory>
-    ensures { IfOk result (λ f. (taken : List (List (Option KnownKind))) → CheckedPart (meaning_of names.now) told.old told.new (schedule_faults (meaning_of names.now) taken (written_edge_kind raw.now)) (λ d. numbering.edge_kind d (written_edge_kind raw.now)) (edge_kind_of f)) }
+    ensures { IfOk result
+        (λ f. (taken : List (List (Option KnownKind)))
+        → CheckedPart (meaning_of names.now) told.old told.new
+        (schedule_faults (meaning_of names.now) taken (written_edge_kind raw.now))
+        (λ d. numbering.edge_kind d (written_edge_kind raw.now)) (edge_kind_of f)) }
 {
     match raw {
         RawEdgeForm::Schedule { delay, priority } => {
@@ -132,7 +152,8 @@ fn report_value_count(
     at: usize,
     told: &mut FirstFault,
 )
-    ensures { told.new ≡ earliest_fault told.old (count_faults (written_edge_kind form.now) wanted given at) }
+    ensures { told.new
+        ≡ earliest_fault told.old (count_faults (written_edge_kind form.now) wanted given at) }
 {
     match form {
         RawEdgeForm::CancelNext | RawEdgeForm::CancelAll => told.note(
@@ -162,7 +183,12 @@ fn carried(
     raw: &RawEdge,
     told: &mut FirstFault,
 ) -> Result<List<Expr>, NoMemory>
-    ensures { IfOk result (λ es. CheckedPart (meaning_of names.now) told.old told.new (carried_faults (meaning_of names.now) taken.now (written_edge raw.now) (taken_by taken.now target)) (λ d. written_or (each_numbered (numbering.expression d)) [] (written_edge raw.now).values) (map expression_of es)) }
+    ensures { IfOk result
+        (λ es. CheckedPart (meaning_of names.now) told.old told.new
+        (carried_faults (meaning_of names.now) taken.now (written_edge raw.now)
+        (taken_by taken.now target))
+        (λ d. written_or (each_numbered (numbering.expression d)) [] (written_edge raw.now).values)
+        (map expression_of es)) }
 {
     let raws = items(&raw.values);
     match taken_at(taken, target) {
@@ -183,7 +209,10 @@ pub fn edge(
     raw: &RawEdge,
     told: &mut FirstFault,
 ) -> Result<Edge, NoMemory>
-    ensures { IfOk result (λ e. CheckedPart (meaning_of names.now) told.old told.new (edge_faults (meaning_of names.now) taken.now (written_edge raw.now)) (λ d. numbering.edge d (written_edge raw.now)) (edge_of e)) }
+    ensures { IfOk result
+        (λ e. CheckedPart (meaning_of names.now) told.old told.new
+        (edge_faults (meaning_of names.now) taken.now (written_edge raw.now))
+        (λ d. numbering.edge d (written_edge raw.now)) (edge_of e)) }
 {
     let target = vertex(names, &raw.target, told);
     let values = carried(alloc, names, taken, target, raw, told)?;
@@ -205,7 +234,10 @@ pub fn edges(
     raws: &[RawEdge],
     told: &mut FirstFault,
 ) -> Result<List<Edge>, NoMemory>
-    ensures { IfOk result (λ es. CheckedPart (meaning_of names.now) told.old told.new (flat_map (edge_faults (meaning_of names.now) taken.now) (map written_edge raws.now)) (λ d. each_numbered (numbering.edge d) (map written_edge raws.now)) (map edge_of es)) }
+    ensures { IfOk result
+        (λ es. CheckedPart (meaning_of names.now) told.old told.new
+        (flat_map (edge_faults (meaning_of names.now) taken.now) (map written_edge raws.now))
+        (λ d. each_numbered (numbering.edge d) (map written_edge raws.now)) (map edge_of es)) }
 {
     let mut edges = Vec::with_capacity(alloc, raws.len())?;
     for raw in raws {

@@ -26,8 +26,12 @@ pub(crate) fn operand(
     raw: &RawExpr,
     told: &mut FirstFault,
 ) -> Result<Typed<Expr>, NoMemory>
-    ensures checked { IfOk result (λ e. CheckedPart (meaning_of names.now) told.old told.new (operand_faults (meaning_of names.now) wanted (written_expression raw.now)) (λ d. expression d (written_expression raw.now)) (expression_of e.part)) }
-    ensures kind { IfOk result (λ e. e.kind ≡ expression_kind (meaning_of names.now) (written_expression raw.now)) }
+    ensures checked { IfOk result
+        (λ e. CheckedPart (meaning_of names.now) told.old told.new
+        (operand_faults (meaning_of names.now) wanted (written_expression raw.now))
+        (λ d. expression d (written_expression raw.now)) (expression_of e.part)) }
+    ensures kind { IfOk result
+        (λ e. e.kind ≡ expression_kind (meaning_of names.now) (written_expression raw.now)) }
 {
     let typed = typed_expression(alloc, names, raw, told)?;
     let differs = kinds_differ(wanted, typed.kind);
@@ -44,8 +48,12 @@ fn boxed_operand(
     raw: &Box<RawExpr>,
     told: &mut FirstFault,
 ) -> Result<Typed<Box<Expr>>, NoMemory>
-    ensures checked { IfOk result (λ e. CheckedPart (meaning_of names.now) told.old told.new (operand_faults (meaning_of names.now) wanted (written_expression raw.now.value)) (λ d. expression d (written_expression raw.now.value)) (expression_of e.part.value)) }
-    ensures kind { IfOk result (λ e. e.kind ≡ expression_kind (meaning_of names.now) (written_expression raw.now.value)) }
+    ensures checked { IfOk result
+        (λ e. CheckedPart (meaning_of names.now) told.old told.new
+        (operand_faults (meaning_of names.now) wanted (written_expression raw.now.value))
+        (λ d. expression d (written_expression raw.now.value)) (expression_of e.part.value)) }
+    ensures kind { IfOk result
+        (λ e. e.kind ≡ expression_kind (meaning_of names.now) (written_expression raw.now.value)) }
 {
     let typed = operand(alloc, names, wanted, raw, told)?;
     let kind = typed.kind;
@@ -61,8 +69,12 @@ fn typed_expression(
     raw: &RawExpr,
     told: &mut FirstFault,
 ) -> Result<Typed<Expr>, NoMemory>
-    ensures checked { IfOk result (λ e. CheckedPart (meaning_of names.now) told.old told.new (expression_faults (meaning_of names.now) (written_expression raw.now)) (λ d. expression d (written_expression raw.now)) (expression_of e.part)) }
-    ensures kind { IfOk result (λ e. e.kind ≡ expression_kind (meaning_of names.now) (written_expression raw.now)) }
+    ensures checked { IfOk result
+        (λ e. CheckedPart (meaning_of names.now) told.old told.new
+        (expression_faults (meaning_of names.now) (written_expression raw.now))
+        (λ d. expression d (written_expression raw.now)) (expression_of e.part)) }
+    ensures kind { IfOk result
+        (λ e. e.kind ≡ expression_kind (meaning_of names.now) (written_expression raw.now)) }
 {
     match &raw.form {
         RawForm::Int(number) => {

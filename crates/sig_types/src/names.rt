@@ -68,7 +68,10 @@ impl Names {
     /// Adds a declaration, which is left out where the name is declared already. Says whether it was new.
     pub fn add(&mut self, alloc: Global, name: &Name, meaning: Meaning) -> Result<bool, NoMemory>
         ensures new { IfOk result (λ added. added ≡ is_none (meaning_of self.old name.now)) }
-        ensures names { IfOk result (λ added. self.new ≡ (if added then self.old ++ declaration_of name.now (meaning_seen meaning) ∷ [] else self.old)) }
+        ensures names { IfOk result
+            (λ added. self.new
+            ≡ (if added then self.old
+            ++ declaration_of name.now (meaning_seen meaning) ∷ [] else self.old)) }
     {
         let key = Vec::from_slice(alloc, name.as_slice())?;
         let Some(first) = self.table.insert(key, meaning)? else {

@@ -36,7 +36,8 @@ fn certain_signed(raw: &RawSigned) -> i128
 
 /// A literal. Where it is outside the limit of literals, 0.
 pub(crate) fn literal(raw: &RawSigned, told: &mut FirstFault) -> i64
-    ensures { CheckedPlain told.old told.new (literal_too_large (written_signed raw.now)) (signed (written_signed raw.now)) result }
+    ensures { CheckedPlain told.old told.new (literal_too_large (written_signed raw.now))
+        (signed (written_signed raw.now)) result }
 {
     let certain = certain_signed(raw);
     let fits = -i128::from(LITERAL_MAX) <= certain && certain <= i128::from(LITERAL_MAX);
@@ -59,7 +60,12 @@ pub fn bounded(
     kind: StaticKind,
     told: &mut FirstFault,
 ) -> usize
-    ensures checked { CheckedPlain told.old told.new (number_too_large (written_number raw.now) ++ fault_where (not (is_between (pos least) (pos most) (table.certain_value (written_number raw.now)))) kind raw.now.at) (natural (written_number raw.now)) result }
+    ensures checked { CheckedPlain told.old told.new
+        (number_too_large (written_number raw.now)
+        ++ fault_where
+        (not (is_between (pos least) (pos most)
+        (table.certain_value (written_number raw.now)))) kind raw.now.at)
+        (natural (written_number raw.now)) result }
     ensures small { result ≤ most }
 {
     let certain = certain_number(raw.value);
@@ -71,7 +77,8 @@ pub fn bounded(
 
 /// Reports that a first bound exceeds the second.
 pub(crate) fn report_empty_range(lo: &RawSigned, hi: &RawSigned, told: &mut FirstFault)
-    ensures { told.new ≡ earliest_fault told.old (empty_range (written_signed lo.now) (written_signed hi.now)) }
+    ensures { told.new
+        ≡ earliest_fault told.old (empty_range (written_signed lo.now) (written_signed hi.now)) }
 {
     let empty = certain_signed(hi) < certain_signed(lo);
     told.note(empty, StaticKind::EmptyRange, lo.at);
@@ -79,7 +86,8 @@ pub(crate) fn report_empty_range(lo: &RawSigned, hi: &RawSigned, told: &mut Firs
 
 /// Reports that from a first bound to a second there are too many values for a draw.
 pub(crate) fn report_wide_range(lo: &RawSigned, hi: &RawSigned, told: &mut FirstFault)
-    ensures { told.new ≡ earliest_fault told.old (draw_outside (written_signed lo.now) (written_signed hi.now)) }
+    ensures { told.new
+        ≡ earliest_fault told.old (draw_outside (written_signed lo.now) (written_signed hi.now)) }
 {
     let wide = certain_signed(lo) + i128::from(WEIGHTS_MAX) <= certain_signed(hi);
     told.note(wide, StaticKind::DrawOutside, lo.at);
@@ -92,7 +100,10 @@ pub(crate) fn report_initial_outside(
     initial: &RawSigned,
     told: &mut FirstFault,
 )
-    ensures { told.new ≡ earliest_fault told.old (initial_outside (written_signed lo.now) (written_signed hi.now) (written_signed initial.now)) }
+    ensures { told.new
+        ≡ earliest_fault told.old
+        (initial_outside (written_signed lo.now) (written_signed hi.now)
+        (written_signed initial.now)) }
 {
     let inside = lies_between(
         certain_signed(lo),

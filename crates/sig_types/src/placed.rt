@@ -30,7 +30,8 @@ pub trait Placed {
 
 /// Reports the first part beyond a limit.
 pub(crate) fn report_too_many<T: Placed>(limit: usize, parts: &[T], told: &mut FirstFault)
-    ensures { told.new ≡ earliest_fault told.old (too_many limit (map T.begins (map T.written parts.now))) }
+    ensures { told.new
+        ≡ earliest_fault told.old (too_many limit (map T.begins (map T.written parts.now))) }
 {
     if let Some(part) = parts.get(limit) {
         told.note(true, StaticKind::TooMany, part.place());

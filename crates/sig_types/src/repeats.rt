@@ -45,7 +45,8 @@ fn report_many_repeats(
     raws: &[RawName],
     told: &mut FirstFault,
 ) -> Result<(), NoMemory>
-    ensures { OnOk result (told.new ≡ earliest_fault told.old (repeated_names [] (map written_name raws.now))) }
+    ensures { OnOk result
+        (told.new ≡ earliest_fault told.old (repeated_names [] (map written_name raws.now))) }
 {
     let mut earlier = IndexSet::with_capacity(alloc, raws.len())?;
     for raw in raws {
@@ -61,7 +62,8 @@ pub(crate) fn report_repeats(
     raws: &[RawName],
     told: &mut FirstFault,
 ) -> Result<(), NoMemory>
-    ensures { OnOk result (told.new ≡ earliest_fault told.old (repeated_names [] (map written_name raws.now))) }
+    ensures { OnOk result
+        (told.new ≡ earliest_fault told.old (repeated_names [] (map written_name raws.now))) }
 {
     if raws.len() <= SHORT_LIST {
         report_few_repeats(raws, told);

@@ -24,7 +24,10 @@ use std::alloc::Global;
 fn weight(raw: &RawNumber, before: i128, told: &mut FirstFault) -> u64
     requires low { negsuc 85070591730234615865843651857942052864 ≤ℤ before }
     requires high { before ≤ℤ pos 85070591730234615865843651857942052864 }
-    ensures { CheckedPlain told.old told.new (number_too_large (written_number raw.now) ++ weight_outside before (written_number raw.now)) (natural (written_number raw.now)) result }
+    ensures { CheckedPlain told.old told.new
+        (number_too_large (written_number raw.now)
+        ++ weight_outside before (written_number raw.now))
+        (natural (written_number raw.now)) result }
 {
     let certain = certain_number(raw.value);
     told.note(raw.value.is_none(), StaticKind::LiteralTooLarge, raw.at);
@@ -48,7 +51,11 @@ fn is_outside(before: i128, weight: i128) -> bool
 fn row(raw: &RawRow, before: i128, told: &mut FirstFault) -> Row
     requires low { negsuc 85070591730234615865843651857942052864 ≤ℤ before }
     requires high { before ≤ℤ pos 85070591730234615865843651857942052864 }
-    ensures { CheckedPlain told.old told.new (literal_too_large (written_row raw.now).value ++ number_too_large (written_row raw.now).weight ++ weight_outside before (written_row raw.now).weight) (numbering.row (written_row raw.now)) (weighted_of result) }
+    ensures { CheckedPlain told.old told.new
+        (literal_too_large (written_row raw.now).value
+        ++ number_too_large (written_row raw.now).weight
+        ++ weight_outside before (written_row raw.now).weight)
+        (numbering.row (written_row raw.now)) (weighted_of result) }
 {
     let value = literal(&raw.value, told);
     let weight = weight(&raw.weight, before, told);
@@ -68,7 +75,9 @@ fn with_weight(before: i128, raw: &RawRow) -> i128
 
 /// The rows of a table.
 fn rows(alloc: Global, raws: &[RawRow], told: &mut FirstFault) -> Result<List<Row>, NoMemory>
-    ensures { IfOk result (λ rows. CheckedPlain told.old told.new (rows_faults (pos 0) (map written_row raws.now)) (each_numbered numbering.row (map written_row raws.now)) (map weighted_of rows)) }
+    ensures { IfOk result
+        (λ rows. CheckedPlain told.old told.new (rows_faults (pos 0) (map written_row raws.now))
+        (each_numbered numbering.row (map written_row raws.now)) (map weighted_of rows)) }
 {
     let mut rows = Vec::with_capacity(alloc, raws.len())?;
     let mut sum = 0;
@@ -81,7 +90,9 @@ fn rows(alloc: Global, raws: &[RawRow], told: &mut FirstFault) -> Result<List<Ro
 
 /// The rows of a table. Faults of its name and of its length are reported.
 fn rows_of(alloc: Global, raw: &RawTable, told: &mut FirstFault) -> Result<List<Row>, NoMemory>
-    ensures { IfOk result (λ rows. CheckedPlain told.old told.new (table_faults (written_table raw.now)) (each_numbered numbering.row (written_table raw.now).rows) (map weighted_of rows)) }
+    ensures { IfOk result
+        (λ rows. CheckedPlain told.old told.new (table_faults (written_table raw.now))
+        (each_numbered numbering.row (written_table raw.now).rows) (map weighted_of rows)) }
 {
     report_long_name(&raw.name, told);
     report_too_many(ROWS_MAX, raw.rows.as_slice(), told);
@@ -90,7 +101,9 @@ fn rows_of(alloc: Global, raw: &RawTable, told: &mut FirstFault) -> Result<List<
 
 /// A table.
 fn table(alloc: Global, raw: RawTable, told: &mut FirstFault) -> Result<Table, NoMemory>
-    ensures { IfOk result (λ t. CheckedPlain told.old told.new (table_faults (written_table raw)) (numbering.table (written_table raw)) (table_of t)) }
+    ensures { IfOk result
+        (λ t. CheckedPlain told.old told.new (table_faults (written_table raw))
+        (numbering.table (written_table raw)) (table_of t)) }
 {
     let rows = rows_of(alloc, &raw, told)?;
     Table::of_rows(alloc, raw.name.name, rows)
@@ -102,7 +115,9 @@ pub(crate) fn check_tables(
     raws: List<RawTable>,
     told: &mut FirstFault,
 ) -> Result<List<Table>, NoMemory>
-    ensures { IfOk result (λ tables. CheckedPlain told.old told.new (flat_map table_faults (map written_table raws)) (each_numbered numbering.table (map written_table raws)) (map table_of tables)) }
+    ensures { IfOk result
+        (λ tables. CheckedPlain told.old told.new (flat_map table_faults (map written_table raws))
+        (each_numbered numbering.table (map written_table raws)) (map table_of tables)) }
 {
     let mut tables = Vec::with_capacity(alloc, raws.len())?;
     for raw in raws.into_vec() {

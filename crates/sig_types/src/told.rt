@@ -40,7 +40,9 @@ fn row(kind: StaticKind) -> u8
 
 /// Whether the first of two faults comes first: by place, and at one place by row.
 fn is_before(a: Fault, b: Fault) -> bool
-    ensures { result ≡ is_earlier_fault (record { at = a.at; kind = a.kind }) (record { at = b.at; kind = b.kind }) }
+    ensures { result
+        ≡ is_earlier_fault (record { at = a.at; kind = a.kind })
+        (record { at = b.at; kind = b.kind }) }
 {
     a.at < b.at || a.at == b.at && row(a.kind) < row(b.kind)
 }

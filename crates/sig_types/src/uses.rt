@@ -50,7 +50,9 @@ fn is_fit(role: Role, meaning: Meaning) -> bool
 /// What the name that these bytes spell means, at this place and used so.
 #[inline(always)]
 fn used(names: &Names, role: Role, name: &[u8], at: usize, told: &mut FirstFault) -> Option<Meaning>
-    ensures told { told.new ≡ earliest_fault told.old (use_faults (meaning_of names.now) (role_seen role) (record { name = name.now; at = at })) }
+    ensures told { told.new
+        ≡ earliest_fault told.old
+        (use_faults (meaning_of names.now) (role_seen role) (record { name = name.now; at = at })) }
     ensures means { option_map meaning_seen result ≡ meaning_of names.now name.now }
 {
     told.note(name.len() > NAME_MAX, StaticKind::NameTooLong, at);
@@ -67,8 +69,10 @@ fn used(names: &Names, role: Role, name: &[u8], at: usize, told: &mut FirstFault
 /// The place and the kind of a scalar or an array. Of anything else 0, and no kind.
 #[inline(always)]
 fn variable_meant(meaning: Option<Meaning>, is_array: bool) -> Typed<usize>
-    ensures place { (k : ℕ) (kind : KnownKind) → option_map meaning_seen meaning ≡ Some (MeansVariable k kind is_array) → result.part ≡ k }
-    ensures kind { result.kind ≡ kind_in_role (variable_role is_array) (option_map meaning_seen meaning) }
+    ensures place { (k : ℕ) (kind : KnownKind)
+        → option_map meaning_seen meaning ≡ Some (MeansVariable k kind is_array) → result.part ≡ k }
+    ensures kind { result.kind
+        ≡ kind_in_role (variable_role is_array) (option_map meaning_seen meaning) }
 {
     match meaning {
         Some(
@@ -97,8 +101,12 @@ pub fn spelled_variable(
     at: usize,
     told: &mut FirstFault,
 ) -> Typed<usize>
-    ensures checked { CheckedPart (meaning_of names.now) told.old told.new (use_faults (meaning_of names.now) (variable_role is_array) (record { name = name.now; at = at })) (λ d. declared_place name.now d.variables) result.part }
-    ensures kind { result.kind ≡ kind_in_role (variable_role is_array) (meaning_of names.now name.now) }
+    ensures checked { CheckedPart (meaning_of names.now) told.old told.new
+        (use_faults (meaning_of names.now) (variable_role is_array)
+        (record { name = name.now; at = at }))
+        (λ d. declared_place name.now d.variables) result.part }
+    ensures kind { result.kind
+        ≡ kind_in_role (variable_role is_array) (meaning_of names.now name.now) }
 {
     let role = if is_array { Role::Array } else { Role::Scalar };
     let meaning = used(names, role, name, at, told);
@@ -112,8 +120,11 @@ pub(crate) fn variable(
     raw: &RawName,
     told: &mut FirstFault,
 ) -> Typed<usize>
-    ensures checked { CheckedPart (meaning_of names.now) told.old told.new (use_faults (meaning_of names.now) (variable_role is_array) (written_name raw.now)) (λ d. declared_place raw.now.name d.variables) result.part }
-    ensures kind { result.kind ≡ kind_in_role (variable_role is_array) (meaning_of names.now raw.now.name) }
+    ensures checked { CheckedPart (meaning_of names.now) told.old told.new
+        (use_faults (meaning_of names.now) (variable_role is_array) (written_name raw.now))
+        (λ d. declared_place raw.now.name d.variables) result.part }
+    ensures kind { result.kind
+        ≡ kind_in_role (variable_role is_array) (meaning_of names.now raw.now.name) }
 {
     spelled_variable(names, is_array, raw.name.as_slice(), raw.at, told)
 }
@@ -138,7 +149,9 @@ fn table_meant(meaning: Option<Meaning>) -> usize
 
 /// A name that is used as a table.
 pub(crate) fn table(names: &Names, raw: &RawName, told: &mut FirstFault) -> usize
-    ensures { CheckedPart (meaning_of names.now) told.old told.new (use_faults (meaning_of names.now) AsTable (written_name raw.now)) (λ d. declared_place raw.now.name d.tables) result }
+    ensures { CheckedPart (meaning_of names.now) told.old told.new
+        (use_faults (meaning_of names.now) AsTable (written_name raw.now))
+        (λ d. declared_place raw.now.name d.tables) result }
 {
     let meaning = used(names, Role::Table, raw.name.as_slice(), raw.at, told);
     table_meant(meaning)
@@ -156,7 +169,9 @@ fn place_of_vertex(meaning: Option<Meaning>) -> Option<usize>
 
 /// A name that is used as a vertex, where it is in the text. `None` where it isn't one.
 pub fn spelled_vertex(names: &Names, name: &[u8], at: usize, told: &mut FirstFault) -> Option<usize>
-    ensures checked { CheckedPart (meaning_of names.now) told.old told.new (use_faults (meaning_of names.now) AsVertex (record { name = name.now; at = at })) (λ d. option_map (λ k. Some k) (declared_place name.now d.vertices)) result }
+    ensures checked { CheckedPart (meaning_of names.now) told.old told.new
+        (use_faults (meaning_of names.now) AsVertex (record { name = name.now; at = at }))
+        (λ d. option_map (λ k. Some k) (declared_place name.now d.vertices)) result }
     ensures means { result ≡ vertex_meant (meaning_of names.now name.now) }
 {
     let meaning = used(names, Role::Vertex, name, at, told);
@@ -165,7 +180,9 @@ pub fn spelled_vertex(names: &Names, name: &[u8], at: usize, told: &mut FirstFau
 
 /// A name that is used as a vertex. `None` where it isn't one.
 pub(crate) fn vertex(names: &Names, raw: &RawName, told: &mut FirstFault) -> Option<usize>
-    ensures checked { CheckedPart (meaning_of names.now) told.old told.new (use_faults (meaning_of names.now) AsVertex (written_name raw.now)) (λ d. option_map (λ k. Some k) (declared_place raw.now.name d.vertices)) result }
+    ensures checked { CheckedPart (meaning_of names.now) told.old told.new
+        (use_faults (meaning_of names.now) AsVertex (written_name raw.now))
+        (λ d. option_map (λ k. Some k) (declared_place raw.now.name d.vertices)) result }
     ensures means { result ≡ vertex_meant (meaning_of names.now raw.now.name) }
 {
     spelled_vertex(names, raw.name.as_slice(), raw.at, told)
@@ -173,8 +190,11 @@ pub(crate) fn vertex(names: &Names, raw: &RawName, told: &mut FirstFault) -> Opt
 
 /// What is watched. Of what can't be watched the first variable.
 fn watch_meant(meaning: Option<Meaning>) -> Watch
-    ensures variable { (k : ℕ) (kind : KnownKind) (array : Bool) → option_map meaning_seen meaning ≡ Some (MeansVariable k kind array) → watched_of result ≡ WatchedVariable k }
-    ensures vertex { (k : ℕ) → option_map meaning_seen meaning ≡ Some (MeansVertex k) → watched_of result ≡ WatchedVertex k }
+    ensures variable { (k : ℕ) (kind : KnownKind) (array : Bool)
+        → option_map meaning_seen meaning ≡ Some (MeansVariable k kind array)
+        → watched_of result ≡ WatchedVariable k }
+    ensures vertex { (k : ℕ) → option_map meaning_seen meaning ≡ Some (MeansVertex k)
+        → watched_of result ≡ WatchedVertex k }
 {
     match meaning {
         Some(Meaning::Variable { var, .. }) => Watch::Variable { var },
@@ -185,7 +205,9 @@ fn watch_meant(meaning: Option<Meaning>) -> Watch
 
 /// A name that is watched.
 pub(crate) fn watched(names: &Names, raw: &RawName, told: &mut FirstFault) -> Watch
-    ensures { CheckedPart (meaning_of names.now) told.old told.new (use_faults (meaning_of names.now) AsWatched (written_name raw.now)) (λ d. numbering.watched d (written_name raw.now)) (watched_of result) }
+    ensures { CheckedPart (meaning_of names.now) told.old told.new
+        (use_faults (meaning_of names.now) AsWatched (written_name raw.now))
+        (λ d. numbering.watched d (written_name raw.now)) (watched_of result) }
 {
     let meaning = used(names, Role::Watched, raw.name.as_slice(), raw.at, told);
     watch_meant(meaning)

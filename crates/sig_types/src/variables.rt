@@ -21,7 +21,9 @@ use std::alloc::Global;
 
 /// The number of cells of an array, and 0 of a scalar.
 fn size(raw: &Option<RawNumber>, told: &mut FirstFault) -> usize
-    ensures { CheckedPlain told.old told.new (if_written size_faults (option_map written_number raw.now)) (numbering.size (option_map written_number raw.now)) result }
+    ensures { CheckedPlain told.old told.new
+        (if_written size_faults (option_map written_number raw.now))
+        (numbering.size (option_map written_number raw.now)) result }
 {
     match raw {
         Some(raw) => bounded(raw, 1, ARRAY_CELLS_MAX, StaticKind::SizeOutside, told),
@@ -41,7 +43,8 @@ pub struct Range {
 
 /// A truth value.
 fn truth(initial: &RawLiteral, told: &mut FirstFault) -> Range
-    ensures { CheckedPlain told.old told.new (range_faults TruthKind (written_literal initial.now)) (numbered_range TruthKind (written_literal initial.now)) result }
+    ensures { CheckedPlain told.old told.new (range_faults TruthKind (written_literal initial.now))
+        (numbered_range TruthKind (written_literal initial.now)) result }
 {
     let initial = match initial {
         RawLiteral::Truth { value, .. } => i64::from(*value),
@@ -61,7 +64,9 @@ fn truth(initial: &RawLiteral, told: &mut FirstFault) -> Range
 
 /// The initial value of a number.
 fn initial_number(lo: &RawSigned, hi: &RawSigned, raw: &RawLiteral, told: &mut FirstFault) -> i64
-    ensures { CheckedPlain told.old told.new (initial_faults (written_signed lo.now) (written_signed hi.now) (written_literal raw.now)) (numbering.initial (written_literal raw.now)) result }
+    ensures { CheckedPlain told.old told.new
+        (initial_faults (written_signed lo.now) (written_signed hi.now) (written_literal raw.now))
+        (numbering.initial (written_literal raw.now)) result }
 {
     match raw {
         RawLiteral::Signed(signed) => {
@@ -84,7 +89,11 @@ fn bounds(
     raw: &RawLiteral,
     told: &mut FirstFault,
 ) -> Range
-    ensures { CheckedPlain told.old told.new (range_faults (RangeKind (written_signed lo.now) (written_signed hi.now) clip) (written_literal raw.now)) (numbered_range (RangeKind (written_signed lo.now) (written_signed hi.now) clip) (written_literal raw.now)) result }
+    ensures { CheckedPlain told.old told.new
+        (range_faults (RangeKind (written_signed lo.now) (written_signed hi.now) clip)
+        (written_literal raw.now))
+        (numbered_range (RangeKind (written_signed lo.now) (written_signed hi.now) clip)
+        (written_literal raw.now)) result }
 {
     let least = literal(lo, told);
     let most = literal(hi, told);
@@ -101,7 +110,9 @@ fn bounds(
 
 /// What a variable holds, and its initial value.
 fn range_of(kind: &RawKind, initial: &RawLiteral, told: &mut FirstFault) -> Range
-    ensures { CheckedPlain told.old told.new (range_faults (written_kind kind.now) (written_literal initial.now)) (numbered_range (written_kind kind.now) (written_literal initial.now)) result }
+    ensures { CheckedPlain told.old told.new
+        (range_faults (written_kind kind.now) (written_literal initial.now))
+        (numbered_range (written_kind kind.now) (written_literal initial.now)) result }
 {
     match kind {
         RawKind::Truth => truth(initial, told),
@@ -111,7 +122,8 @@ fn range_of(kind: &RawKind, initial: &RawLiteral, told: &mut FirstFault) -> Rang
 
 /// A variable.
 fn variable(raw: RawVar, told: &mut FirstFault) -> Var
-    ensures { CheckedPlain told.old told.new (variable_faults (written_variable raw)) (numbering.variable (written_variable raw)) (variable_of result) }
+    ensures { CheckedPlain told.old told.new (variable_faults (written_variable raw))
+        (numbering.variable (written_variable raw)) (variable_of result) }
 {
     report_long_name(&raw.name, told);
     let size = size(&raw.size, told);
@@ -133,7 +145,10 @@ pub(crate) fn check_variables(
     raws: List<RawVar>,
     told: &mut FirstFault,
 ) -> Result<List<Var>, NoMemory>
-    ensures { IfOk result (λ vars. CheckedPlain told.old told.new (flat_map variable_faults (map written_variable raws)) (each_numbered numbering.variable (map written_variable raws)) (map variable_of vars)) }
+    ensures { IfOk result
+        (λ vars. CheckedPlain told.old told.new
+        (flat_map variable_faults (map written_variable raws))
+        (each_numbered numbering.variable (map written_variable raws)) (map variable_of vars)) }
 {
     let mut vars = Vec::with_capacity(alloc, raws.len())?;
     for raw in raws.into_vec() {

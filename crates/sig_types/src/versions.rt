@@ -35,7 +35,8 @@ fn is_version_two(raw: &Option<RawNumber>) -> bool
 
 /// Reports an unknown version.
 fn report_unknown_version(raw: &Option<RawNumber>, told: &mut FirstFault)
-    ensures { told.new ≡ earliest_fault told.old (if_written number_faults (option_map written_number raw.now)) }
+    ensures { told.new
+        ≡ earliest_fault told.old (if_written number_faults (option_map written_number raw.now)) }
 {
     if let Some(raw) = raw {
         let known = lies_between(1, 2, certain_number(raw.value));
@@ -46,7 +47,8 @@ fn report_unknown_version(raw: &Option<RawNumber>, told: &mut FirstFault)
 
 /// Reports an array of more cells than one of version 1 may have, or of none.
 fn report_array_size(raw: &RawVar, told: &mut FirstFault)
-    ensures { told.new ≡ earliest_fault told.old (size_faults_version_1 (written_variable raw.now)) }
+    ensures { told.new
+        ≡ earliest_fault told.old (size_faults_version_1 (written_variable raw.now)) }
 {
     if let Some(size) = &raw.size {
         let cells = certain_number(size.value);
@@ -57,7 +59,8 @@ fn report_array_size(raw: &RawVar, told: &mut FirstFault)
 
 /// Reports each of these arrays that has as many.
 fn report_array_sizes(raws: &[RawVar], told: &mut FirstFault)
-    ensures { told.new ≡ earliest_fault told.old (flat_map size_faults_version_1 (map written_variable raws.now)) }
+    ensures { told.new
+        ≡ earliest_fault told.old (flat_map size_faults_version_1 (map written_variable raws.now)) }
 {
     for raw in raws {
         report_array_size(raw, told);
@@ -66,7 +69,8 @@ fn report_array_sizes(raws: &[RawVar], told: &mut FirstFault)
 
 /// Reports the first target beyond those that a `set` of version 1 may have.
 fn report_target_count(raw: &RawChange, told: &mut FirstFault)
-    ensures { told.new ≡ earliest_fault told.old (target_faults_version_1 (written_change raw.now)) }
+    ensures { told.new
+        ≡ earliest_fault told.old (target_faults_version_1 (written_change raw.now)) }
 {
     match raw {
         RawChange::Set { targets, .. } => {
@@ -78,7 +82,8 @@ fn report_target_count(raw: &RawChange, told: &mut FirstFault)
 
 /// Reports it of each of these changes.
 fn report_target_counts(raws: &[RawChange], told: &mut FirstFault)
-    ensures { told.new ≡ earliest_fault told.old (flat_map target_faults_version_1 (map written_change raws.now)) }
+    ensures { told.new
+        ≡ earliest_fault told.old (flat_map target_faults_version_1 (map written_change raws.now)) }
 {
     for raw in raws {
         report_target_count(raw, told);
@@ -87,7 +92,8 @@ fn report_target_counts(raws: &[RawChange], told: &mut FirstFault)
 
 /// Reports the delay of an edge, at its word `draw`, where it is drawn.
 fn report_drawn_delay(raw: &RawEdgeForm, told: &mut FirstFault)
-    ensures { told.new ≡ earliest_fault told.old (delay_faults_version_1 (written_edge_kind raw.now)) }
+    ensures { told.new
+        ≡ earliest_fault told.old (delay_faults_version_1 (written_edge_kind raw.now)) }
 {
     if let RawEdgeForm::Schedule {
         delay: Some(RawDelay::Drawn { at, .. }),
@@ -100,7 +106,10 @@ fn report_drawn_delay(raw: &RawEdgeForm, told: &mut FirstFault)
 
 /// Reports it of each of these edges.
 fn report_drawn_delays(raws: &[RawEdge], told: &mut FirstFault)
-    ensures { told.new ≡ earliest_fault told.old (flat_map (λ (e : WrittenEdge). delay_faults_version_1 e.kind) (map written_edge raws.now)) }
+    ensures { told.new
+        ≡ earliest_fault told.old
+        (flat_map (λ (e : WrittenEdge). delay_faults_version_1 e.kind)
+        (map written_edge raws.now)) }
 {
     for raw in raws {
         report_drawn_delay(&raw.form, told);
@@ -109,7 +118,8 @@ fn report_drawn_delays(raws: &[RawEdge], told: &mut FirstFault)
 
 /// Reports the first parameter beyond those that a vertex of version 1 may have, such targets, and delays that are drawn.
 fn report_vertex_limits(raw: &RawVertex, told: &mut FirstFault)
-    ensures { told.new ≡ earliest_fault told.old (vertex_faults_version_1 (written_vertex raw.now)) }
+    ensures { told.new
+        ≡ earliest_fault told.old (vertex_faults_version_1 (written_vertex raw.now)) }
 {
     report_too_many(PARAMETERS_MAX_VERSION_1, items(&raw.params), told);
     report_target_counts(raw.changes.as_slice(), told);
@@ -118,7 +128,8 @@ fn report_vertex_limits(raw: &RawVertex, told: &mut FirstFault)
 
 /// Reports it of each of these vertices.
 fn report_vertices_limits(raws: &[RawVertex], told: &mut FirstFault)
-    ensures { told.new ≡ earliest_fault told.old (flat_map vertex_faults_version_1 (map written_vertex raws.now)) }
+    ensures { told.new
+        ≡ earliest_fault told.old (flat_map vertex_faults_version_1 (map written_vertex raws.now)) }
 {
     for raw in raws {
         report_vertex_limits(raw, told);
@@ -135,7 +146,9 @@ fn report_version_1(raw: &RawModel, told: &mut FirstFault)
 
 /// A size, where it is within the limit on one array, and else 0.
 fn size_within(value: Option<i64>) -> usize
-    ensures is { result ≡ option_map_or (λ n. cond (nat_le n cells_limit) n 0) (option_and_then natural_of value) 0 }
+    ensures is { result
+        ≡ option_map_or (λ n. cond (nat_le n cells_limit) n 0)
+        (option_and_then natural_of value) 0 }
     ensures few { result ≤ cells_limit }
 {
     match value {

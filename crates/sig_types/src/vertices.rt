@@ -24,7 +24,8 @@ use std::alloc::Global;
 
 /// The kinds of the parameters of a vertex.
 fn kinds_of(alloc: Global, names: &Names, raws: &[RawName]) -> Result<List<Option<Kind>>, NoMemory>
-    ensures { IfOk result (λ kinds. kinds ≡ map (parameter_kind (meaning_of names.now)) (map written_name raws.now)) }
+    ensures { IfOk result
+        (λ kinds. kinds ≡ map (parameter_kind (meaning_of names.now)) (map written_name raws.now)) }
 {
     let mut kinds = Vec::with_capacity(alloc, raws.len())?;
     for raw in raws {
@@ -39,7 +40,8 @@ pub fn taken(
     names: &Names,
     raws: &[RawVertex],
 ) -> Result<List<List<Option<Kind>>>, NoMemory>
-    ensures { IfOk result (λ taken. taken ≡ map (kinds_taken (meaning_of names.now)) (map written_vertex raws.now)) }
+    ensures { IfOk result
+        (λ taken. taken ≡ map (kinds_taken (meaning_of names.now)) (map written_vertex raws.now)) }
 {
     let mut taken = Vec::with_capacity(alloc, raws.len())?;
     for raw in raws {
@@ -55,7 +57,10 @@ fn numbers_of(
     raws: &[RawName],
     told: &mut FirstFault,
 ) -> Result<List<usize>, NoMemory>
-    ensures { IfOk result (λ vars. CheckedPart (meaning_of names.now) told.old told.new (flat_map (use_faults (meaning_of names.now) AsScalar) (map written_name raws.now)) (λ d. each_numbered (numbering.numbered_parameter d) (map written_name raws.now)) vars) }
+    ensures { IfOk result
+        (λ vars. CheckedPart (meaning_of names.now) told.old told.new
+        (flat_map (use_faults (meaning_of names.now) AsScalar) (map written_name raws.now))
+        (λ d. each_numbered (numbering.numbered_parameter d) (map written_name raws.now)) vars) }
 {
     let mut vars = Vec::with_capacity(alloc, raws.len())?;
     for raw in raws {
@@ -72,7 +77,10 @@ pub fn parameters(
     raws: &[RawName],
     told: &mut FirstFault,
 ) -> Result<List<usize>, NoMemory>
-    ensures { IfOk result (λ vars. CheckedPart (meaning_of names.now) told.old told.new (parameters_faults (meaning_of names.now) [] (map written_name raws.now)) (λ d. each_numbered (numbering.numbered_parameter d) (map written_name raws.now)) vars) }
+    ensures { IfOk result
+        (λ vars. CheckedPart (meaning_of names.now) told.old told.new
+        (parameters_faults (meaning_of names.now) [] (map written_name raws.now))
+        (λ d. each_numbered (numbering.numbered_parameter d) (map written_name raws.now)) vars) }
 {
     report_too_many(PARAMETERS_MAX, raws, told);
     let vars = numbers_of(alloc, names, raws, told)?;
@@ -96,7 +104,11 @@ fn parts_of(
     raw: &RawVertex,
     told: &mut FirstFault,
 ) -> Result<VertexParts, NoMemory>
-    ensures { IfOk result (λ v. CheckedPart (meaning_of names.now) told.old told.new (vertex_faults (meaning_of names.now) taken.now (written_vertex raw.now)) (λ d. numbering.vertex d (written_vertex raw.now)) (record { name = raw.now.name.name; parameters = v.params; changes = map change_of v.changes; edges = map edge_of v.edges })) }
+    ensures { IfOk result
+        (λ v. CheckedPart (meaning_of names.now) told.old told.new
+        (vertex_faults (meaning_of names.now) taken.now (written_vertex raw.now))
+        (λ d. numbering.vertex d (written_vertex raw.now))
+        (record { name = raw.now.name.name; parameters = v.params; changes = map change_of v.changes; edges = map edge_of v.edges })) }
 {
     report_long_name(&raw.name, told);
     let params = parameters(alloc, names, items(&raw.params), told)?;
@@ -119,7 +131,10 @@ fn vertex(
     raw: RawVertex,
     told: &mut FirstFault,
 ) -> Result<Vertex, NoMemory>
-    ensures { IfOk result (λ v. CheckedPart (meaning_of names.now) told.old told.new (vertex_faults (meaning_of names.now) taken.now (written_vertex raw)) (λ d. numbering.vertex d (written_vertex raw)) (vertex_of v)) }
+    ensures { IfOk result
+        (λ v. CheckedPart (meaning_of names.now) told.old told.new
+        (vertex_faults (meaning_of names.now) taken.now (written_vertex raw))
+        (λ d. numbering.vertex d (written_vertex raw)) (vertex_of v)) }
 {
     let parts = parts_of(alloc, names, taken, &raw, told)?;
     Ok(Vertex {
@@ -138,7 +153,10 @@ pub fn vertices(
     raws: List<RawVertex>,
     told: &mut FirstFault,
 ) -> Result<List<Vertex>, NoMemory>
-    ensures { IfOk result (λ vs. CheckedPart (meaning_of names.now) told.old told.new (flat_map (vertex_faults (meaning_of names.now) taken.now) (map written_vertex raws)) (λ d. each_numbered (numbering.vertex d) (map written_vertex raws)) (map vertex_of vs)) }
+    ensures { IfOk result
+        (λ vs. CheckedPart (meaning_of names.now) told.old told.new
+        (flat_map (vertex_faults (meaning_of names.now) taken.now) (map written_vertex raws))
+        (λ d. each_numbered (numbering.vertex d) (map written_vertex raws)) (map vertex_of vs)) }
 {
     let mut vertices = Vec::with_capacity(alloc, raws.len())?;
     for raw in raws.into_vec() {

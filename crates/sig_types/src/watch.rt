@@ -25,7 +25,11 @@ fn all_watched(
     raws: &[RawName],
     told: &mut FirstFault,
 ) -> Result<List<Watch>, NoMemory>
-    ensures { IfOk result (λ ws. CheckedPart (meaning_of names.now) told.old told.new (flat_map (use_faults (meaning_of names.now) AsWatched) (map written_name raws.now)) (λ d. each_numbered (numbering.watched d) (map written_name raws.now)) (map watched_of ws)) }
+    ensures { IfOk result
+        (λ ws. CheckedPart (meaning_of names.now) told.old told.new
+        (flat_map (use_faults (meaning_of names.now) AsWatched) (map written_name raws.now))
+        (λ d. each_numbered (numbering.watched d) (map written_name raws.now))
+        (map watched_of ws)) }
 {
     let mut watch = Vec::with_capacity(alloc, raws.len())?;
     for raw in raws {
@@ -41,7 +45,12 @@ pub(crate) fn watch_list(
     raws: &[RawName],
     told: &mut FirstFault,
 ) -> Result<List<Watch>, NoMemory>
-    ensures { IfOk result (λ ws. CheckedPart (meaning_of names.now) told.old told.new (flat_map (use_faults (meaning_of names.now) AsWatched) (map written_name raws.now) ++ repeated_names [] (map written_name raws.now)) (λ d. each_numbered (numbering.watched d) (map written_name raws.now)) (map watched_of ws)) }
+    ensures { IfOk result
+        (λ ws. CheckedPart (meaning_of names.now) told.old told.new
+        (flat_map (use_faults (meaning_of names.now) AsWatched) (map written_name raws.now)
+        ++ repeated_names [] (map written_name raws.now))
+        (λ d. each_numbered (numbering.watched d) (map written_name raws.now))
+        (map watched_of ws)) }
 {
     let watch = all_watched(alloc, names, raws, told)?;
     report_repeats(alloc, raws, told)?;

@@ -39,7 +39,8 @@ fn word_of(alloc: Global, bytes: &[u8]) -> Result<String, Failure>
 /// The words of the bytes, in which each word is ended by a byte of 0. The error is `NoMemory`, or `Usage` where a word
 /// isn't UTF-8.
 pub fn words_of(alloc: Global, bytes: &[u8]) -> Result<Vec<String>, Failure>
-    ensures words { IfOk result (λ words. map string_bytes (vec_items words) ≡ ended_words bytes.now) }
+    ensures words { IfOk result
+        (λ words. map string_bytes (vec_items words) ≡ ended_words bytes.now) }
     ensures missing { IfErr result (λ why. (why ≡ failures.NoMemory)
         ⊎ ((why ≡ failures.Usage) × (All IsUtf8 (ended_words bytes.now) → ⊥))) }
 {

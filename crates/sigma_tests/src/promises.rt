@@ -25,22 +25,44 @@ ghost use Rattle.sigma_tests.specs.Devices.{PromisesSo, input_of, output_of};
 /// Each promise says of the very bytes that were written what its job is for. That of `resume` also holds where the run ends at
 /// a fault or at its budget.
 pub fn promises_are_of_what_is_written()
-    ensures printed { (text out : List ℕ) → PromisesSo statuses.Done (codes "print" ∷ []) text out → PrintsModel text out }
-    ensures reduced { (text out : List ℕ) → PromisesSo statuses.Done (codes "reduce" ∷ []) text out → KeepsMeaning text out }
-    ensures fused { (text out : List ℕ) → PromisesSo statuses.Done (codes "fuse" ∷ []) text out → RewritesTheSame Fused text out }
-    ensures narrowed { (text out : List ℕ) → PromisesSo statuses.Done (codes "narrow" ∷ []) text out → RewritesTheSame IsNarrowed text out }
-    ensures saved { (text out : List ℕ) → PromisesSo statuses.Done (codes "save" ∷ codes "--until=10" ∷ codes "--seed=0" ∷ codes "--events=5" ∷ []) text out
+    ensures printed { (text out : List ℕ) → PromisesSo statuses.Done (codes "print" ∷ []) text out
+        → PrintsModel text out }
+    ensures reduced { (text out : List ℕ) → PromisesSo statuses.Done (codes "reduce" ∷ []) text out
+        → KeepsMeaning text out }
+    ensures fused { (text out : List ℕ) → PromisesSo statuses.Done (codes "fuse" ∷ []) text out
+        → RewritesTheSame Fused text out }
+    ensures narrowed { (text out : List ℕ) → PromisesSo statuses.Done (codes "narrow" ∷ []) text out
+        → RewritesTheSame IsNarrowed text out }
+    ensures saved { (text out : List ℕ)
+        → PromisesSo statuses.Done
+        (codes "save" ∷ codes "--until=10" ∷ codes "--seed=0" ∷ codes "--events=5" ∷ []) text out
         → SavesTheRun text out (record { until = 10; seed = 0; events = 5; starts = [] }) }
-    ensures resumed { (text document out : List ℕ) (o : SaveOptions) (saves : SavesTheRun text document o) → saves.here.now.clock ≤ 10 → o.events + 5 ≤ EVENTS_MAX
-        → PromisesSo statuses.Done (codes "resume" ∷ codes "--until=10" ∷ codes "--events=5" ∷ []) document out
-        → out ≡ history_text saves.model 10 5 (history_from saves.model (saved o.seed o.events saves.here) 10 5) }
-    ensures resumed_up_to_a_fault { (text document out : List ℕ) (o : SaveOptions) (saves : SavesTheRun text document o) → saves.here.now.clock ≤ 10 → o.events + 5 ≤ EVENTS_MAX
-        → PromisesSo statuses.ModelFault (codes "resume" ∷ codes "--until=10" ∷ codes "--events=5" ∷ []) document out
-        → out ≡ history_text saves.model 10 5 (history_from saves.model (saved o.seed o.events saves.here) 10 5) }
-    ensures resumed_up_to_a_budget { (text document out : List ℕ) (o : SaveOptions) (saves : SavesTheRun text document o) → saves.here.now.clock ≤ 10 → o.events + 5 ≤ EVENTS_MAX
-        → PromisesSo statuses.Budget (codes "resume" ∷ codes "--until=10" ∷ codes "--events=5" ∷ []) document out
-        → out ≡ history_text saves.model 10 5 (history_from saves.model (saved o.seed o.events saves.here) 10 5) }
-    ensures certified { (text out : List ℕ) → PromisesSo statuses.Done (codes "certify" ∷ []) text out → Certifies text }
-    ensures of_an_answer { (text out : List ℕ) (status : Status) → IsOfAnswer (readings.Model models.Check) (input_of text 0) status (output_of [] 0 false) (output_of out 0 true)
-        → (a : Answer) × Answers (readings.Model models.Check) text a × (status ≡ status_of_answer a) × (out ≡ bytes_of_answer a) }
+    ensures resumed { (text document out : List ℕ) (o : SaveOptions)
+        (saves : SavesTheRun text document o) → saves.here.now.clock ≤ 10
+        → o.events + 5 ≤ EVENTS_MAX
+        → PromisesSo statuses.Done
+        (codes "resume" ∷ codes "--until=10" ∷ codes "--events=5" ∷ []) document out
+        → out ≡ history_text saves.model 10 5
+        (history_from saves.model (saved o.seed o.events saves.here) 10 5) }
+    ensures resumed_up_to_a_fault { (text document out : List ℕ) (o : SaveOptions)
+        (saves : SavesTheRun text document o) → saves.here.now.clock ≤ 10
+        → o.events + 5 ≤ EVENTS_MAX
+        → PromisesSo statuses.ModelFault
+        (codes "resume" ∷ codes "--until=10" ∷ codes "--events=5" ∷ []) document out
+        → out ≡ history_text saves.model 10 5
+        (history_from saves.model (saved o.seed o.events saves.here) 10 5) }
+    ensures resumed_up_to_a_budget { (text document out : List ℕ) (o : SaveOptions)
+        (saves : SavesTheRun text document o) → saves.here.now.clock ≤ 10
+        → o.events + 5 ≤ EVENTS_MAX
+        → PromisesSo statuses.Budget
+        (codes "resume" ∷ codes "--until=10" ∷ codes "--events=5" ∷ []) document out
+        → out ≡ history_text saves.model 10 5
+        (history_from saves.model (saved o.seed o.events saves.here) 10 5) }
+    ensures certified { (text out : List ℕ)
+        → PromisesSo statuses.Done (codes "certify" ∷ []) text out → Certifies text }
+    ensures of_an_answer { (text out : List ℕ) (status : Status)
+        → IsOfAnswer (readings.Model models.Check) (input_of text 0) status (output_of [] 0 false)
+        (output_of out 0 true)
+        → (a : Answer) × Answers (readings.Model models.Check) text a
+        × (status ≡ status_of_answer a) × (out ≡ bytes_of_answer a) }
 {}

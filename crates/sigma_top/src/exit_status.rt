@@ -40,9 +40,11 @@ fn program_status<S: Source, K: Sink, E: Sink>(
     output: &mut K,
     errors: &mut E,
 ) -> Status
-    ensures ended { IfOk words (λ words. Ends S.seen K.seen E.seen (map string_bytes (vec_items words))
+    ensures ended { IfOk words
+        (λ words. Ends S.seen K.seen E.seen (map string_bytes (vec_items words))
         input.old input.new output.old output.new errors.old errors.new result) }
-    ensures promises { IfOk words (λ words. KeepsPromises (λ status. result ≡ status) (map string_bytes (vec_items words))
+    ensures promises { IfOk words
+        (λ words. KeepsPromises (λ status. result ≡ status) (map string_bytes (vec_items words))
         (S.seen input.old) (K.seen output.old) (K.seen output.new)) }
     ensures untouched { OnErr words ((input.new ≡ input.old) × (output.new ≡ output.old)) }
     ensures without_memory { IfErr words (λ error. error_kind error ≡ ErrorKind.OutOfMemory
@@ -71,13 +73,16 @@ pub fn program<S: Source, K: Sink, E: Sink>(
     errors: &mut E,
 ) -> ExitCode
     // The exit status is the number of how the call of `sigma` ended.
-    ensures ended { IfOk words (λ words. (status : Status) × (exit_status result ≡ exit_status_of status)
+    ensures ended { IfOk words
+        (λ words. (status : Status) × (exit_status result ≡ exit_status_of status)
         × Ends S.seen K.seen E.seen (map string_bytes (vec_items words))
         input.old input.new output.old output.new errors.old errors.new status) }
 
     // The promises of `sigma` hold at the exit status: where that is 0, what `reduce` writes means the same as what it read.
-    ensures promises { IfOk words (λ words. KeepsPromises (λ status. exit_status result ≡ exit_status_of status)
-        (map string_bytes (vec_items words)) (S.seen input.old) (K.seen output.old) (K.seen output.new)) }
+    ensures promises { IfOk words
+        (λ words. KeepsPromises (λ status. exit_status result ≡ exit_status_of status)
+        (map string_bytes (vec_items words)) (S.seen input.old) (K.seen output.old)
+        (K.seen output.new)) }
 
     // Without words nothing is read, and nothing but the line is written.
     ensures untouched { OnErr words ((input.new ≡ input.old) × (output.new ≡ output.old)) }

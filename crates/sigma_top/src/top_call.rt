@@ -117,7 +117,8 @@ pub fn sigma<S: Source, K: Sink, E: Sink>(
         → (HasRisen (S.seen input.old).faults (S.seen input.new).faults → ⊥)
         → (HasRisen (K.seen output.old).faults (K.seen output.new).faults → ⊥)
         → (result ≡ Status.NoMemory)
-        ⊎ IsOfAnswer (reading_of job) (S.seen input.old) result (K.seen output.old) (K.seen output.new) }
+        ⊎ IsOfAnswer (reading_of job) (S.seen input.old) result (K.seen output.old)
+        (K.seen output.new) }
 
     // A text that reads as a model is reduced, unless memory, the input or the output fails.
     ensures always_reduced { job_of (map string_bytes words.now) ≡ Some Job.Reduce
@@ -128,15 +129,19 @@ pub fn sigma<S: Source, K: Sink, E: Sink>(
 
     // Where `run` lacks memory nothing is written, if the run fits the room that it was given.
     ensures within_room { (until seed events : ℕ) (starts : List ℤ) (room : ℕ)
-        → job_of (map string_bytes words.now) ≡ Some (Job.Run until seed events starts room) → result ≡ Status.NoMemory
+        → job_of (map string_bytes words.now) ≡ Some (Job.Run until seed events starts room)
+        → result ≡ Status.NoMemory
         → IfSome (S.seen input.old).left (λ text.
-        ((g : EventGraph) → Reads text g → RunFitsRoom g until seed events starts room) → output.new ≡ output.old) }
+        ((g : EventGraph) → Reads text g → RunFitsRoom g until seed events starts room)
+        → output.new ≡ output.old) }
 
     // Where `resume` lacks memory nothing is written, if the saved run fits the room that it has.
     ensures resumed_within_room { (until events room : ℕ)
-        → job_of (map string_bytes words.now) ≡ Some (Job.Resume until events room) → result ≡ Status.NoMemory
+        → job_of (map string_bytes words.now) ≡ Some (Job.Resume until events room)
+        → result ≡ Status.NoMemory
         → IfSome (S.seen input.old).left (λ text.
-        ((g : EventGraph) (s : SavedRun) → ReadsSaved text g s → ResumedFitsRoom g s until events room)
+        ((g : EventGraph) (s : SavedRun) → ReadsSaved text g s
+        → ResumedFitsRoom g s until events room)
         → output.new ≡ output.old) }
 
     // What each job is for: the promises `printed`, `reduced`, `fused`, `narrowed`, `saved`, `resumed` and `certified`, one

@@ -13,7 +13,8 @@ const LEAST_SIZE: u64 = 9_223_372_036_854_775_808;
 
 /// The number that the digits write, if it is at most 2^63.
 fn size_of(digits: &[u8]) -> Option<u64>
-    ensures is { result ≡ if_good (nat_lt (digits_value digits.now) (suc (2 ^ 63))) (digits_value digits.now) }
+    ensures is { result
+        ≡ if_good (nat_lt (digits_value digits.now) (suc (2 ^ 63))) (digits_value digits.now) }
     ensures within { IfSome result (λ n. n ≤ 2 ^ 63) }
 {
     let mut value: u64 = 0;
@@ -31,7 +32,9 @@ fn size_of(digits: &[u8]) -> Option<u64>
 
 /// The value, if it is a number of 64 bits.
 pub(crate) fn carried_value(carried: RawCarried<'_>) -> Option<i64>
-    ensures { result ≡ if_good (is_wide (written_carried carried.entry)) (carried_of (written_carried carried.entry)) }
+    ensures { result
+        ≡ if_good (is_wide (written_carried carried.entry))
+        (carried_of (written_carried carried.entry)) }
 {
     let size = size_of(carried.digits.bytes)?;
     if size == LEAST_SIZE {

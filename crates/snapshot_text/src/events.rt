@@ -30,7 +30,8 @@ const PRIORITY_MAX: u64 = 255;
 
 /// The values that are written, and none where none are.
 fn written_values<'v, 't>(values: &'v Option<List<RawCarried<'t>>>) -> &'v [RawCarried<'t>]
-    ensures { map written_carried result.now ≡ unwrap_or (option_map (map written_carried) values.now) [] }
+    ensures { map written_carried result.now
+        ≡ unwrap_or (option_map (map written_carried) values.now) [] }
 {
     match values {
         Some(values) => values.as_slice(),
@@ -42,7 +43,8 @@ fn written_values<'v, 't>(values: &'v Option<List<RawCarried<'t>>>) -> &'v [RawC
 fn add_carried(values: &mut Carried, written: &[RawCarried<'_>]) -> bool
     requires { length values.old.items + length written.now ≤ PARAMETERS_MAX }
     ensures all { result ≡ list_all is_wide (map written_carried written.now) }
-    ensures added { result ≡ true → values.new.items ≡ values.old.items ++ map carried_of (map written_carried written.now) }
+    ensures added { result ≡ true
+        → values.new.items ≡ values.old.items ++ map carried_of (map written_carried written.now) }
 {
     for carried in written {
         let Some(value) = carried_value(*carried) else {
@@ -55,7 +57,8 @@ fn add_carried(values: &mut Carried, written: &[RawCarried<'_>]) -> bool
 
 /// How many parameters the vertex at a place has, where each vertex has few.
 fn parameter_count(model: &Model, vertex: usize) -> usize
-    requires { AllByRecursion (λ (v : EventVertex). length v.parameters ≤ PARAMETERS_MAX) (graph_of model.now).vertices }
+    requires { AllByRecursion (λ (v : EventVertex). length v.parameters ≤ PARAMETERS_MAX)
+        (graph_of model.now).vertices }
     ensures is { result ≡ length (vertex_at (graph_of model.now) vertex).parameters }
     ensures few { result ≤ PARAMETERS_MAX }
 {
@@ -64,10 +67,13 @@ fn parameter_count(model: &Model, vertex: usize) -> usize
 
 /// The event, if it is good for the model at this clock.
 fn entry_of(model: &Model, places: &Places, clock: u64, raw: &RawPending<'_>) -> Option<Entry>
-    requires few { AllByRecursion (λ (v : EventVertex). length v.parameters ≤ PARAMETERS_MAX) (graph_of model.now).vertices }
+    requires few { AllByRecursion (λ (v : EventVertex). length v.parameters ≤ PARAMETERS_MAX)
+        (graph_of model.now).vertices }
     requires placed { HasPlaces (names_of_vertices (graph_of model.now).vertices) places.now }
     requires early { clock ≤ 2 ^ 48 }
-    ensures { result ≡ if_good (pending_part (graph_of model.now) (written_pending raw.now)).good (saved_entry (graph_of model.now) clock (written_pending raw.now)) }
+    ensures { result
+        ≡ if_good (pending_part (graph_of model.now) (written_pending raw.now)).good
+        (saved_entry (graph_of model.now) clock (written_pending raw.now)) }
 {
     let ticks = at_most(raw.ticks, TICKS_MAX)?;
     let priority = at_most(raw.priority, PRIORITY_MAX)?;
@@ -95,9 +101,13 @@ pub(crate) fn pending_of(
     clock: u64,
     raws: &[RawPending<'_>],
 ) -> Result<List<Entry>, SnapshotError>
-    requires few { AllByRecursion (λ (v : EventVertex). length v.parameters ≤ PARAMETERS_MAX) (graph_of model.now).vertices }
+    requires few { AllByRecursion (λ (v : EventVertex). length v.parameters ≤ PARAMETERS_MAX)
+        (graph_of model.now).vertices }
     requires early { clock ≤ 2 ^ 48 }
-    ensures { Judged result (map (pending_part (graph_of model.now)) (map written_pending raws.now)) (λ entries. entries ≡ map (saved_entry (graph_of model.now) clock) (map written_pending raws.now)) }
+    ensures { Judged result
+        (map (pending_part (graph_of model.now)) (map written_pending raws.now))
+        (λ entries. entries
+        ≡ map (saved_entry (graph_of model.now) clock) (map written_pending raws.now)) }
 {
     let places = Places::of_vertices(alloc, model.vertices.as_slice())?;
     let mut entries = Vec::with_capacity(alloc, raws.len())?;

@@ -31,9 +31,11 @@ fn later_judged(
     clock: u64,
     events: u64,
 ) -> Result<Snapshot, SnapshotError>
-    requires few { AllByRecursion (λ (v : EventVertex). length v.parameters ≤ PARAMETERS_MAX) (graph_of model.now).vertices }
+    requires few { AllByRecursion (λ (v : EventVertex). length v.parameters ≤ PARAMETERS_MAX)
+        (graph_of model.now).vertices }
     requires early { clock ≤ 2 ^ 48 }
-    ensures { Judged result (later_parts (graph_of model.now) (written_snapshot raw.now)) (λ s. s ≡ later_saved (graph_of model.now) (written_snapshot raw.now) seed clock events) }
+    ensures { Judged result (later_parts (graph_of model.now) (written_snapshot raw.now))
+        (λ s. s ≡ later_saved (graph_of model.now) (written_snapshot raw.now) seed clock events) }
 {
     let taken = taken_of(alloc, raw.streams.as_slice())?;
     let values = values_of(alloc, model, raw.values.as_slice())?;
@@ -59,8 +61,10 @@ pub(crate) fn judged(
     model: &Model,
     raw: &RawSnapshot<'_>,
 ) -> Result<Snapshot, SnapshotError>
-    requires few { AllByRecursion (λ (v : EventVertex). length v.parameters ≤ PARAMETERS_MAX) (graph_of model.now).vertices }
-    ensures { Judged result (snapshot_parts (graph_of model.now) (written_snapshot raw.now)) (λ s. s ≡ saved_run (graph_of model.now) (written_snapshot raw.now)) }
+    requires few { AllByRecursion (λ (v : EventVertex). length v.parameters ≤ PARAMETERS_MAX)
+        (graph_of model.now).vertices }
+    ensures { Judged result (snapshot_parts (graph_of model.now) (written_snapshot raw.now))
+        (λ s. s ≡ saved_run (graph_of model.now) (written_snapshot raw.now)) }
 {
     let Some(seed) = seed_of(raw.head.seed, raw.head.seed_rest) else {
         return Err(SnapshotError::Bad {

@@ -18,7 +18,8 @@ use std::alloc::Global;
 
 /// The values that are written, and none where none are.
 fn written_values(values: &Option<List<RawSigned>>) -> &[RawSigned]
-    ensures { map written_signed result.now ≡ unwrap_or (option_map (map written_signed) values.now) [] }
+    ensures { map written_signed result.now
+        ≡ unwrap_or (option_map (map written_signed) values.now) [] }
 {
     match values {
         Some(values) => values.as_slice(),
@@ -32,7 +33,10 @@ pub(crate) fn noted_of(
     model: &Model,
     noted: &Option<RawNoted>,
 ) -> Result<Option<List<i64>>, SnapshotError>
-    ensures { Judged result (noted_parts (graph_of model.now) (option_map written_noted noted.now)) (λ found. found ≡ option_map (λ (n : WrittenNoted). signed_values n.values) (option_map written_noted noted.now)) }
+    ensures { Judged result (noted_parts (graph_of model.now) (option_map written_noted noted.now))
+        (λ found. found
+        ≡ option_map (λ (n : WrittenNoted). signed_values n.values)
+        (option_map written_noted noted.now)) }
 {
     let Some(raw) = noted else {
         return Ok(None);

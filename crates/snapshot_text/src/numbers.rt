@@ -23,7 +23,9 @@ fn natural(number: RawNumber) -> Option<u64>
 
 /// The number, if it is at most this.
 pub(crate) fn at_most(number: RawNumber, most: u64) -> Option<u64>
-    ensures is { result ≡ if_good (is_at_most most (written_number number)) (number_or_zero (written_number number)) }
+    ensures is { result
+        ≡ if_good (is_at_most most (written_number number))
+        (number_or_zero (written_number number)) }
     ensures within { IfSome result (λ n. n ≤ most) }
 {
     let value = natural(number)?;
@@ -32,7 +34,9 @@ pub(crate) fn at_most(number: RawNumber, most: u64) -> Option<u64>
 
 /// The number, if it is from 1 to this.
 pub(crate) fn from_one_to(number: RawNumber, most: u64) -> Option<u64>
-    ensures is { result ≡ if_good (from_one_to most (written_number number)) (number_or_zero (written_number number)) }
+    ensures is { result
+        ≡ if_good (from_one_to most (written_number number))
+        (number_or_zero (written_number number)) }
     ensures within { IfSome result (λ n. n ≤ most) }
 {
     let value = natural(number)?;

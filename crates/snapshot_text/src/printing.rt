@@ -18,7 +18,9 @@ use std::alloc::Global;
 
 /// Adds values, each after a comma.
 fn put_later_values(out: &mut Vec<u8>, values: &[i64]) -> Result<(), NoMemory>
-    ensures { OnOk result (out.new.items ≡ out.old.items ++ flat_map (λ (y : ℤ). codes "," ++ signed_decimal y) values.now) }
+    ensures { OnOk result
+        (out.new.items
+        ≡ out.old.items ++ flat_map (λ (y : ℤ). codes "," ++ signed_decimal y) values.now) }
 {
     for value in values {
         put_bytes(out, b",")?;
@@ -62,7 +64,8 @@ fn put_streams(out: &mut Vec<u8>, taken: &[u64]) -> Result<(), NoMemory>
 
 /// Adds the line of a variable with its values.
 fn put_value(out: &mut Vec<u8>, var: &Var, values: &[i64]) -> Result<(), NoMemory>
-    ensures { OnOk result (out.new.items ≡ out.old.items ++ value_line (variable_of var.now) values.now) }
+    ensures { OnOk result
+        (out.new.items ≡ out.old.items ++ value_line (variable_of var.now) values.now) }
 {
     put_texts(out, &[b"value ", var.name.as_slice(), b" "])?;
     put_values(out, values)?;
@@ -71,7 +74,8 @@ fn put_value(out: &mut Vec<u8>, var: &Var, values: &[i64]) -> Result<(), NoMemor
 
 /// Adds a line for each variable, with the next of the values.
 fn put_all_values(out: &mut Vec<u8>, model: &Model, values: &[i64]) -> Result<(), NoMemory>
-    ensures { OnOk result (out.new.items ≡ out.old.items ++ value_lines (graph_of model.now).variables values.now) }
+    ensures { OnOk result
+        (out.new.items ≡ out.old.items ++ value_lines (graph_of model.now).variables values.now) }
 {
     let mut from = 0;
     for var in model.vars.as_slice() {
@@ -119,7 +123,8 @@ fn put_carried(out: &mut Vec<u8>, values: &[i64]) -> Result<(), NoMemory>
 
 /// Adds the line of a pending event, which occurs in so many ticks.
 fn put_pending(out: &mut Vec<u8>, model: &Model, ticks: u64, entry: &Entry) -> Result<(), NoMemory>
-    ensures { OnOk result (out.new.items ≡ out.old.items ++ event_line (graph_of model.now) ticks entry.now) }
+    ensures { OnOk result
+        (out.new.items ≡ out.old.items ++ event_line (graph_of model.now) ticks entry.now) }
 {
     put_counted(out, b"pending ", ticks)?;
     put_counted(out, b" ", u64::from(entry.priority))?;
@@ -136,7 +141,9 @@ fn put_all_pending(
     entries: &[Entry],
 ) -> Result<(), NoMemory>
     requires { AllByRecursion (λ (e : Scheduled). clock ≤ e.time) entries.now }
-    ensures { OnOk result (out.new.items ≡ out.old.items ++ flat_map (pending_line (graph_of model.now) clock) entries.now) }
+    ensures { OnOk result
+        (out.new.items
+        ≡ out.old.items ++ flat_map (pending_line (graph_of model.now) clock) entries.now) }
 {
     for entry in entries {
         put_pending(out, model, entry.time - clock, entry)?;
@@ -167,8 +174,10 @@ fn put_clock(out: &mut Vec<u8>, clock: u64, events: u64) -> Result<(), NoMemory>
 
 /// Adds the lines after these.
 fn put_last_lines(out: &mut Vec<u8>, model: &Model, snapshot: &Snapshot) -> Result<(), NoMemory>
-    requires { AllByRecursion (λ (e : Scheduled). snapshot.now.clock ≤ e.time) snapshot.now.pending }
-    ensures { OnOk result (out.new.items ≡ out.old.items ++ last_lines (graph_of model.now) snapshot.now) }
+    requires { AllByRecursion
+        (λ (e : Scheduled). snapshot.now.clock ≤ e.time) snapshot.now.pending }
+    ensures { OnOk result
+        (out.new.items ≡ out.old.items ++ last_lines (graph_of model.now) snapshot.now) }
 {
     put_streams(out, snapshot.taken.as_slice())?;
     put_all_values(out, model, snapshot.values.as_slice())?;
@@ -180,7 +189,8 @@ fn put_last_lines(out: &mut Vec<u8>, model: &Model, snapshot: &Snapshot) -> Resu
 /// Adds the lines of a snapshot that is good for the model.
 fn put_snapshot(out: &mut Vec<u8>, model: &Model, snapshot: &Snapshot) -> Result<(), NoMemory>
     requires { IsGood (graph_of model.now) snapshot.now }
-    ensures { OnOk result (out.new.items ≡ out.old.items ++ snapshot_text (graph_of model.now) snapshot.now) }
+    ensures { OnOk result
+        (out.new.items ≡ out.old.items ++ snapshot_text (graph_of model.now) snapshot.now) }
 {
     put_seed(out, snapshot.seed / SEED_PART, snapshot.seed % SEED_PART)?;
     put_clock(out, snapshot.clock, snapshot.events)?;

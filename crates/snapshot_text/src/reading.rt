@@ -81,7 +81,8 @@ impl<'t> Repeated<'t> for RawValue<'t> {
 /// Reads signed numbers, where some come.
 #[tactic(auto, unfolding(model_core::specs::Text::Language::signed_format))]
 fn some_signed(alloc: Global, cursor: &mut Cursor<'_>) -> Result<Option<List<RawSigned>>, Stop>
-    ensures { Returned (option_map (map written_signed)) result cursor.new (language_reader (maybe (separated signed_format)) cursor.old) }
+    ensures { Returned (option_map (map written_signed)) result cursor.new
+        (language_reader (maybe (separated signed_format)) cursor.old) }
 {
     if !cursor.begins_symbol(Symbol::Minus) && !cursor.begins_number() {
         return Ok(None);
@@ -102,7 +103,8 @@ fn noted_values(alloc: Global, cursor: &mut Cursor<'_>) -> Result<RawNoted, Stop
 /// Reads the values that were noted last, where they are written.
 #[tactic(auto, unfolding(model_core::specs::Text::SnapshotGrammar::noted_format))]
 fn noted(alloc: Global, cursor: &mut Cursor<'_>) -> Result<Option<RawNoted>, Stop>
-    ensures { Returned (option_map written_noted) result cursor.new (language_reader (maybe noted_format) cursor.old) }
+    ensures { Returned (option_map written_noted) result cursor.new
+        (language_reader (maybe noted_format) cursor.old) }
 {
     if !cursor.begins_spelled(b"noted") {
         return Ok(None);
@@ -140,7 +142,8 @@ impl<'t> Phrase<'t> for RawCarried<'t> {
 /// Reads the values that an event carries, where it carries some.
 #[tactic(auto, unfolding(model_core::specs::Text::SnapshotGrammar::carries_format))]
 fn carries<'t>(alloc: Global, cursor: &mut Cursor<'t>) -> Result<Option<List<RawCarried<'t>>>, Stop>
-    ensures { Returned (option_map (map written_carried)) result cursor.new (language_reader (maybe carries_format) cursor.old) }
+    ensures { Returned (option_map (map written_carried)) result cursor.new
+        (language_reader (maybe carries_format) cursor.old) }
 {
     if !cursor.begins_symbol(Symbol::OpenParenthesis) {
         return Ok(None);
@@ -213,7 +216,8 @@ fn head(cursor: &mut Cursor<'_>) -> Result<RawHead, Stop>
 /// Reads a snapshot.
 #[tactic(auto, unfolding(model_core::specs::Text::SnapshotGrammar::snapshot_format, crate::specs::Inner::SnapshotHead::head_format))]
 fn snapshot<'t>(alloc: Global, cursor: &mut Cursor<'t>) -> Result<RawSnapshot<'t>, Stop>
-    ensures { Returned written_snapshot result cursor.new (language_reader snapshot_format cursor.old) }
+    ensures { Returned written_snapshot result cursor.new
+        (language_reader snapshot_format cursor.old) }
 {
     let head = head(cursor)?;
     let streams = many(alloc, cursor)?;
@@ -233,7 +237,8 @@ fn snapshot<'t>(alloc: Global, cursor: &mut Cursor<'t>) -> Result<RawSnapshot<'t
 
 /// Reads a snapshot after which no token is left.
 fn whole<'t>(alloc: Global, cursor: &mut Cursor<'t>) -> Result<RawSnapshot<'t>, Stop>
-    ensures { Returned written_snapshot result cursor.new (and_next whole_read (language_reader snapshot_format cursor.old)) }
+    ensures { Returned written_snapshot result cursor.new
+        (and_next whole_read (language_reader snapshot_format cursor.old)) }
 {
     let raw = snapshot(alloc, cursor)?;
     cursor.end()?;
@@ -246,7 +251,8 @@ pub(crate) fn raw_snapshot<'t>(
     pieces: &'t Pieces<'_>,
     from: usize,
 ) -> Result<RawSnapshot<'t>, NoMemory>
-    ensures { IfOk result (λ raw. IsSnapshot (drop from (pieces_lexemes pieces.now)) (written_snapshot raw)) }
+    ensures { IfOk result
+        (λ raw. IsSnapshot (drop from (pieces_lexemes pieces.now)) (written_snapshot raw)) }
 {
     let mut cursor = Cursor::from_place(pieces, from);
     match whole(alloc, &mut cursor) {

@@ -227,8 +227,10 @@ fn skim_whole(cursor: &mut Cursor<'_>) -> Result<(), Stop>
 /// place is here the number of pieces before it; the byte named is the first from which no continuation makes a
 /// snapshot: that of a piece, or the text's length. No openings are counted.
 pub fn snapshot_fault_pieces(pieces: &Pieces<'_>, from: usize) -> Option<usize>
-    ensures none { result ≡ None → (w : WrittenSnapshot) × IsSnapshot (drop from (pieces_lexemes pieces.now)) w }
-    ensures some { (at : ℕ) → result ≡ Some at → IsNoSnapshotAt pieces.now.text.now (drop from (pieces_lexemes pieces.now)) at }
+    ensures none { result ≡ None
+        → (w : WrittenSnapshot) × IsSnapshot (drop from (pieces_lexemes pieces.now)) w }
+    ensures some { (at : ℕ) → result ≡ Some at
+        → IsNoSnapshotAt pieces.now.text.now (drop from (pieces_lexemes pieces.now)) at }
 {
     let mut cursor = Cursor::from_place(pieces, from);
     match skim_whole(&mut cursor) {

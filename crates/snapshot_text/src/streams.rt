@@ -16,7 +16,9 @@ const WORDS_MAX: u64 = 4_503_599_627_370_496;
 
 /// The number of the stream and how many words it gave, if it is good after the streams below `least`.
 fn stream_of(stream: RawStream, least: u64) -> Option<(u64, u64)>
-    ensures is { result ≡ if_good (stream_good least (written_stream stream)) (stream_taken (written_stream stream)) }
+    ensures is { result
+        ≡ if_good (stream_good least (written_stream stream))
+        (stream_taken (written_stream stream)) }
     ensures within { IfSome result (λ s. s.0 < 64) }
 {
     let number = at_most(stream.stream, 63)?;
@@ -29,7 +31,8 @@ fn stream_of(stream: RawStream, least: u64) -> Option<(u64, u64)>
 
 /// How many words each of the 64 streams gave.
 pub(crate) fn taken_of(alloc: Global, streams: &[RawStream]) -> Result<List<u64>, SnapshotError>
-    ensures { Judged result (stream_parts 0 (map written_stream streams.now)) (λ taken. taken ≡ with_taken (map written_stream streams.now) (replicate 64 0)) }
+    ensures { Judged result (stream_parts 0 (map written_stream streams.now))
+        (λ taken. taken ≡ with_taken (map written_stream streams.now) (replicate 64 0)) }
 {
     let mut taken = Vec::from_slice(alloc, &[0; 64])?;
     let mut least = 0;

@@ -21,8 +21,10 @@ use std::alloc::Global;
 /// place is here the number of tokens before it; the byte named is the first from which no continuation makes a
 /// snapshot: that of a token, or the text's length. No openings are counted.
 pub fn snapshot_fault(tokens: &Tokens<'_>, from: usize) -> Option<usize>
-    ensures none { result ≡ None → (w : WrittenSnapshot) × IsSnapshot (drop from (lexemes tokens.now)) w }
-    ensures some { (at : ℕ) → result ≡ Some at → IsNoSnapshotAt tokens.now.text.now (drop from (lexemes tokens.now)) at }
+    ensures none { result ≡ None
+        → (w : WrittenSnapshot) × IsSnapshot (drop from (lexemes tokens.now)) w }
+    ensures some { (at : ℕ) → result ≡ Some at
+        → IsNoSnapshotAt tokens.now.text.now (drop from (lexemes tokens.now)) at }
 {
     pieces_are_the_tokens();
     snapshot_fault_pieces(&tokens.pieces, from)
@@ -37,12 +39,16 @@ pub fn read_snapshot(
     tokens: &Tokens<'_>,
     from: usize,
 ) -> Result<Snapshot, SnapshotError>
-    requires few { AllByRecursion (λ (v : EventVertex). length v.parameters ≤ PARAMETERS_MAX) (graph_of model.now).vertices }
+    requires few { AllByRecursion (λ (v : EventVertex). length v.parameters ≤ PARAMETERS_MAX)
+        (graph_of model.now).vertices }
     requires spelled { (w : WrittenSnapshot) × IsSnapshot (drop from (lexemes tokens.now)) w }
     // The snapshot is good, and spells this saved run.
-    ensures good { IfOk result (λ snapshot. (w : WrittenSnapshot) → IsSnapshot (drop from (lexemes tokens.now)) w → (bad_at (graph_of model.now) w ≡ None) × (snapshot ≡ saved_run (graph_of model.now) w)) }
+    ensures good { IfOk result
+        (λ snapshot. (w : WrittenSnapshot) → IsSnapshot (drop from (lexemes tokens.now)) w
+        → (bad_at (graph_of model.now) w ≡ None) × (snapshot ≡ saved_run (graph_of model.now) w)) }
     // The snapshot isn't good, and its first part that breaks a rule begins here.
-    ensures bad { (at : ℕ) → result ≡ Err (SnapshotError.Bad at) → (w : WrittenSnapshot) → IsSnapshot (drop from (lexemes tokens.now)) w → bad_at (graph_of model.now) w ≡ Some at }
+    ensures bad { (at : ℕ) → result ≡ Err (SnapshotError.Bad at) → (w : WrittenSnapshot)
+        → IsSnapshot (drop from (lexemes tokens.now)) w → bad_at (graph_of model.now) w ≡ Some at }
 {
     pieces_are_the_tokens();
     read_snapshot_pieces(alloc, model, &tokens.pieces, from)

@@ -47,8 +47,12 @@ pub(crate) fn add_fitting(
     limits: &Limits,
     values: &[RawSigned],
 ) -> Result<bool, NoMemory>
-    ensures all { IfOk result (λ good. good ≡ list_all (fits_between limits.now.lo limits.now.hi) (map written_signed values.now)) }
-    ensures added { IfOk result (λ good. good ≡ true → out.new.items ≡ out.old.items ++ signed_values (map written_signed values.now)) }
+    ensures all { IfOk result
+        (λ good. good
+        ≡ list_all (fits_between limits.now.lo limits.now.hi) (map written_signed values.now)) }
+    ensures added { IfOk result
+        (λ good. good ≡ true
+        → out.new.items ≡ out.old.items ++ signed_values (map written_signed values.now)) }
 {
     for signed in values {
         let Some(value) = value_within(*signed, limits.lo, limits.hi) else {
@@ -61,8 +65,11 @@ pub(crate) fn add_fitting(
 
 /// Adds the values of a variable, and gives whether they are good.
 fn add_value(out: &mut Vec<i64>, var: &Var, value: &RawValue<'_>) -> Result<bool, NoMemory>
-    ensures all { IfOk result (λ good. good ≡ value_good (variable_of var.now) (written_value value.now)) }
-    ensures added { IfOk result (λ good. good ≡ true → out.new.items ≡ out.old.items ++ signed_values (written_value value.now).values) }
+    ensures all { IfOk result
+        (λ good. good ≡ value_good (variable_of var.now) (written_value value.now)) }
+    ensures added { IfOk result
+        (λ good. good ≡ true
+        → out.new.items ≡ out.old.items ++ signed_values (written_value value.now).values) }
 {
     if value.variable.bytes != var.name.as_slice() {
         return Ok(false);
@@ -83,7 +90,10 @@ pub(crate) fn values_of(
     model: &Model,
     values: &[RawValue<'_>],
 ) -> Result<List<i64>, SnapshotError>
-    ensures { Judged result (value_parts (graph_of model.now).variables (map written_value values.now)) (λ all. all ≡ flat_map (λ (w : WrittenValue). signed_values w.values) (map written_value values.now)) }
+    ensures { Judged result
+        (value_parts (graph_of model.now).variables (map written_value values.now))
+        (λ all. all ≡ flat_map (λ (w : WrittenValue). signed_values w.values)
+        (map written_value values.now)) }
 {
     let mut all = Vec::new(alloc);
     for (place, value) in values.iter().enumerate() {
@@ -99,7 +109,8 @@ pub(crate) fn values_of(
 
 /// The limits of the variable at a place, and of none where there is none, with the number of its cells.
 fn limits_of(model: &Model, var: usize) -> (Limits, usize)
-    ensures limits { (result.0.lo ≡ (variable_at (graph_of model.now) var).lo) × (result.0.hi ≡ (variable_at (graph_of model.now) var).hi) }
+    ensures limits { (result.0.lo ≡ (variable_at (graph_of model.now) var).lo)
+        × (result.0.hi ≡ (variable_at (graph_of model.now) var).hi) }
     ensures cells { result.1 ≡ cell_count (variable_at (graph_of model.now) var) }
 {
     match model.vars.as_slice().get(var) {
@@ -124,9 +135,19 @@ fn add_cells(
     from: usize,
 ) -> Result<Option<usize>, NoMemory>
     requires { from ≤ length values.now }
-    ensures next { IfOk result (λ next. next ≡ if_good (cells_good (variable_at (graph_of model.now) var) (map written_signed (drop from values.now))) (from + cell_count (variable_at (graph_of model.now) var))) }
+    ensures next { IfOk result
+        (λ next. next
+        ≡ if_good (cells_good (variable_at (graph_of model.now) var)
+        (map written_signed (drop from values.now)))
+        (from + cell_count (variable_at (graph_of model.now) var))) }
     ensures within { IfOk result (λ next. IfSome next (λ n. n ≤ length values.now)) }
-    ensures added { IfOk result (λ next. IfSome next (λ n. out.new.items ≡ out.old.items ++ signed_values (map written_signed (take (cell_count (variable_at (graph_of model.now) var)) (drop from values.now))))) }
+    ensures added { IfOk result
+        (λ next. IfSome next
+        (λ n. out.new.items
+        ≡ out.old.items
+        ++ signed_values
+        (map written_signed
+        (take (cell_count (variable_at (graph_of model.now) var)) (drop from values.now))))) }
 {
     let (limits, cells) = limits_of(model, var);
     if cells > values.len() - from {
@@ -150,9 +171,19 @@ fn add_watched(
     from: usize,
 ) -> Result<Option<usize>, NoMemory>
     requires { from ≤ length values.now }
-    ensures next { IfOk result (λ next. next ≡ if_good (watched_good (graph_of model.now) (watched_of watch) (map written_signed (drop from values.now))) (from + watched_cells (graph_of model.now) (watched_of watch))) }
+    ensures next { IfOk result
+        (λ next. next
+        ≡ if_good (watched_good (graph_of model.now) (watched_of watch)
+        (map written_signed (drop from values.now)))
+        (from + watched_cells (graph_of model.now) (watched_of watch))) }
     ensures within { IfOk result (λ next. IfSome next (λ n. n ≤ length values.now)) }
-    ensures added { IfOk result (λ next. IfSome next (λ n. out.new.items ≡ out.old.items ++ signed_values (map written_signed (take (watched_cells (graph_of model.now) (watched_of watch)) (drop from values.now))))) }
+    ensures added { IfOk result
+        (λ next. IfSome next
+        (λ n. out.new.items
+        ≡ out.old.items
+        ++ signed_values
+        (map written_signed
+        (take (watched_cells (graph_of model.now) (watched_of watch)) (drop from values.now))))) }
 {
     match watch {
         Watch::Variable { var } => add_cells(out, model, var, values, from),
@@ -166,7 +197,11 @@ pub(crate) fn watched_values_of(
     model: &Model,
     values: &[RawSigned],
 ) -> Result<Option<List<i64>>, NoMemory>
-    ensures { IfOk result (λ found. found ≡ if_good (fit_variables (cell_variables (variables_watched (graph_of model.now) (graph_of model.now).watch)) (map written_signed values.now)) (signed_values (map written_signed values.now))) }
+    ensures { IfOk result
+        (λ found. found
+        ≡ if_good (fit_variables
+        (cell_variables (variables_watched (graph_of model.now) (graph_of model.now).watch))
+        (map written_signed values.now)) (signed_values (map written_signed values.now))) }
 {
     let mut all = Vec::new(alloc);
     let mut from = 0;

@@ -27,12 +27,18 @@ pub fn read_snapshot_pieces(
     pieces: &Pieces<'_>,
     from: usize,
 ) -> Result<Snapshot, SnapshotError>
-    requires few { AllByRecursion (λ (v : EventVertex). length v.parameters ≤ PARAMETERS_MAX) (graph_of model.now).vertices }
-    requires spelled { (w : WrittenSnapshot) × IsSnapshot (drop from (pieces_lexemes pieces.now)) w }
+    requires few { AllByRecursion (λ (v : EventVertex). length v.parameters ≤ PARAMETERS_MAX)
+        (graph_of model.now).vertices }
+    requires spelled { (w : WrittenSnapshot)
+        × IsSnapshot (drop from (pieces_lexemes pieces.now)) w }
     // The snapshot is good, and spells this saved run.
-    ensures good { IfOk result (λ snapshot. (w : WrittenSnapshot) → IsSnapshot (drop from (pieces_lexemes pieces.now)) w → (bad_at (graph_of model.now) w ≡ None) × (snapshot ≡ saved_run (graph_of model.now) w)) }
+    ensures good { IfOk result
+        (λ snapshot. (w : WrittenSnapshot) → IsSnapshot (drop from (pieces_lexemes pieces.now)) w
+        → (bad_at (graph_of model.now) w ≡ None) × (snapshot ≡ saved_run (graph_of model.now) w)) }
     // The snapshot isn't good, and its first part that breaks a rule begins here.
-    ensures bad { (at : ℕ) → result ≡ Err (SnapshotError.Bad at) → (w : WrittenSnapshot) → IsSnapshot (drop from (pieces_lexemes pieces.now)) w → bad_at (graph_of model.now) w ≡ Some at }
+    ensures bad { (at : ℕ) → result ≡ Err (SnapshotError.Bad at) → (w : WrittenSnapshot)
+        → IsSnapshot (drop from (pieces_lexemes pieces.now)) w
+        → bad_at (graph_of model.now) w ≡ Some at }
 {
     snapshots_have_one_reading();
     let raw = raw_snapshot(alloc, pieces, from)?;

@@ -13,13 +13,16 @@ ghost use Rattle.static_laws.specs.FitsVersion.{FitsVersion};
 /// A written model is accepted as a model, or it has exactly one first static fault: of those with the least
 /// place the first of the table.
 pub fn accepted_or_one_fault()
-    ensures told { (m : WrittenModel) (f : StaticFault) → first_fault m ≡ Some f ↔ IsFirstFault m f.kind f.at }
-    ensures accepted { (m : WrittenModel) → first_fault m ≡ None ↔ ((g : EventGraph) × Accepted m g) }
+    ensures told { (m : WrittenModel) (f : StaticFault)
+        → first_fault m ≡ Some f ↔ IsFirstFault m f.kind f.at }
+    ensures accepted { (m : WrittenModel)
+        → first_fault m ≡ None ↔ ((g : EventGraph) × Accepted m g) }
 {}
 
 /// A written model is accepted as a model exactly where that is the model with numbers in place of its names, it keeps
 /// the static rules by itself, the version of the text can write it, and each variable is written as its kind has it.
 pub fn accepted_models_keep_their_rules()
     ensures { (m : WrittenModel) (g : EventGraph)
-        → Accepted m g ↔ (numbered m ≡ Some g) × KeepsStaticRules g × FitsVersion m.version g × VariablesByKind m }
+        → Accepted m g
+        ↔ (numbered m ≡ Some g) × KeepsStaticRules g × FitsVersion m.version g × VariablesByKind m }
 {}

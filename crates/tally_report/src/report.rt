@@ -36,7 +36,10 @@ fn put_cells<'i>(
     size: usize,
     items: &'i [Item],
 ) -> Result<&'i [Item], NoMemory>
-    ensures rows { OnOk result (out.new ≡ out.old ++ item_rows (heading_of head.now) (map (cell_name name.now) (range_with_len 0 size)) items.now) }
+    ensures rows { OnOk result
+        (out.new ≡ out.old
+        ++ item_rows (heading_of head.now)
+        (map (cell_name name.now) (range_with_len 0 size)) items.now) }
     ensures left { IfOk result (λ left. left.now ≡ drop size items.now) }
 {
     let mut left = items;
@@ -55,8 +58,11 @@ fn put_variable<'i>(
     var: &Var,
     items: &'i [Item],
 ) -> Result<&'i [Item], NoMemory>
-    ensures rows { OnOk result (out.new ≡ out.old ++ item_rows (heading_of head.now) (names_of_variable (variable_of var.now)) items.now) }
-    ensures left { IfOk result (λ left. left.now ≡ drop (length (names_of_variable (variable_of var.now))) items.now) }
+    ensures rows { OnOk result
+        (out.new ≡ out.old
+        ++ item_rows (heading_of head.now) (names_of_variable (variable_of var.now)) items.now) }
+    ensures left { IfOk result
+        (λ left. left.now ≡ drop (length (names_of_variable (variable_of var.now))) items.now) }
 {
     if var.size == 0 {
         return put_next(alloc, out, head, var.name.as_slice(), items);
@@ -73,8 +79,13 @@ fn put_watched<'i>(
     watch: Watch,
     items: &'i [Item],
 ) -> Result<&'i [Item], NoMemory>
-    ensures rows { OnOk result (out.new ≡ out.old ++ item_rows (heading_of head.now) (names_watched (graph_of model.now) (watched_of watch)) items.now) }
-    ensures left { IfOk result (λ left. left.now ≡ drop (length (names_watched (graph_of model.now) (watched_of watch))) items.now) }
+    ensures rows { OnOk result
+        (out.new ≡ out.old
+        ++ item_rows (heading_of head.now)
+        (names_watched (graph_of model.now) (watched_of watch)) items.now) }
+    ensures left { IfOk result
+        (λ left. left.now
+        ≡ drop (length (names_watched (graph_of model.now) (watched_of watch))) items.now) }
 {
     match watch {
         Watch::Variable { var } => match model.vars.as_slice().get(var) {
@@ -93,7 +104,9 @@ fn put_items(
     model: &Model,
     items: &[Item],
 ) -> Result<(), NoMemory>
-    ensures { OnOk result (out.new ≡ out.old ++ item_rows (heading_of head.now) (item_names (graph_of model.now)) items.now) }
+    ensures { OnOk result
+        (out.new ≡ out.old
+        ++ item_rows (heading_of head.now) (item_names (graph_of model.now)) items.now) }
 {
     let mut left = items;
     for watch in model.watch.as_slice() {

@@ -42,7 +42,8 @@ fn put_noted(
     span: Span,
     area: i128,
 ) -> Result<(), NoMemory>
-    ensures { OnOk result (out.new ≡ out.old ++ item_row (heading_of head.now) name.now (CellItem (Some span) area)) }
+    ensures { OnOk result
+        (out.new ≡ out.old ++ item_row (heading_of head.now) name.now (CellItem (Some span) area)) }
 {
     let mut least = Buffer::new();
     let mut greatest = Buffer::new();
@@ -73,7 +74,8 @@ fn put_unnoted(
     name: &[u8],
     area: i128,
 ) -> Result<(), NoMemory>
-    ensures { OnOk result (out.new ≡ out.old ++ item_row (heading_of head.now) name.now (CellItem None area)) }
+    ensures { OnOk result
+        (out.new ≡ out.old ++ item_row (heading_of head.now) name.now (CellItem None area)) }
 {
     let mut sum = Buffer::new();
     out.put(
@@ -101,7 +103,8 @@ fn put_count(
     name: &[u8],
     occurrences: u64,
 ) -> Result<(), NoMemory>
-    ensures { OnOk result (out.new ≡ out.old ++ item_row (heading_of head.now) name.now (CountItem occurrences)) }
+    ensures { OnOk result
+        (out.new ≡ out.old ++ item_row (heading_of head.now) name.now (CountItem occurrences)) }
 {
     let mut count = Buffer::new();
     out.put(
@@ -149,7 +152,8 @@ pub(crate) fn put_next<'i>(
     name: &[u8],
     items: &'i [Item],
 ) -> Result<&'i [Item], NoMemory>
-    ensures rows { OnOk result (out.new ≡ out.old ++ item_rows (heading_of head.now) (name.now ∷ []) items.now) }
+    ensures rows { OnOk result
+        (out.new ≡ out.old ++ item_rows (heading_of head.now) (name.now ∷ []) items.now) }
     ensures left { IfOk result (λ left. left.now ≡ drop 1 items.now) }
 {
     let [first, rest @ ..] = items else {

@@ -35,7 +35,9 @@ fn cells_there(state: &State, watch: Watch) -> &[i64]
 
 /// The noted values of a state, of the watched thing at a place of the watch list.
 fn cells_at<'s>(model: &Model, state: &'s State, place: usize) -> &'s [i64]
-    ensures { result.now ≡ cells_noted (map watched_of model.now.watch) (watched_values (map watched_of model.now.watch) state.now) place }
+    ensures { result.now
+        ≡ cells_noted (map watched_of model.now.watch)
+        (watched_values (map watched_of model.now.watch) state.now) place }
 {
     match model.watch.as_slice().get(place) {
         Some(watch) => cells_there(state, *watch),
@@ -45,7 +47,9 @@ fn cells_at<'s>(model: &Model, state: &'s State, place: usize) -> &'s [i64]
 
 /// The value of the cell at an index there: 0 where there is none.
 fn value_at(model: &Model, state: &State, place: usize, index: usize) -> i64
-    ensures { result ≡ value_noted (graph_of model.now) place index (watched_values (map watched_of model.now.watch) state.now) }
+    ensures { result
+        ≡ value_noted (graph_of model.now) place index
+        (watched_values (map watched_of model.now.watch) state.now) }
 {
     match cells_at(model, state, place).get(index) {
         Some(value) => *value,
@@ -65,7 +69,8 @@ fn cells_declared(model: &Model, var: usize) -> usize
 
 /// Adds a sum for each cell at a place.
 fn add_cells(sums: &mut Vec<Sum>, place: usize, cells: usize) -> Result<(), NoMemory>
-    ensures added { OnOk result (sums.new.items ≡ sums.old.items ++ map (cell_sum place) (range_with_len 0 cells)) }
+    ensures added { OnOk result
+        (sums.new.items ≡ sums.old.items ++ map (cell_sum place) (range_with_len 0 cells)) }
 {
     for index in 0..cells {
         sums.push(Sum {
@@ -82,7 +87,8 @@ fn add_cells(sums: &mut Vec<Sum>, place: usize, cells: usize) -> Result<(), NoMe
 
 /// Adds the sums of what is watched at a place.
 fn add_sums(sums: &mut Vec<Sum>, model: &Model, place: usize, watch: Watch) -> Result<(), NoMemory>
-    ensures added { OnOk result (sums.new.items ≡ sums.old.items ++ sums_at (graph_of model.now) place (watched_of watch)) }
+    ensures added { OnOk result
+        (sums.new.items ≡ sums.old.items ++ sums_at (graph_of model.now) place (watched_of watch)) }
 {
     match watch {
         Watch::Variable { var } => add_cells(sums, place, cells_declared(model, var)),
@@ -99,7 +105,8 @@ fn add_sums(sums: &mut Vec<Sum>, model: &Model, place: usize, watch: Watch) -> R
 
 /// The sums of a run that hasn't begun.
 pub(crate) fn first_sums(alloc: Global, model: &Model) -> Result<Vec<Sum>, NoMemory>
-    ensures { IfOk result (λ sums. sums.items ≡ sums_from (graph_of model.now) 0 (map watched_of model.now.watch)) }
+    ensures { IfOk result
+        (λ sums. sums.items ≡ sums_from (graph_of model.now) 0 (map watched_of model.now.watch)) }
 {
     let mut sums = Vec::new(alloc);
     for (place, watch) in model.watch.as_slice().iter().enumerate() {
@@ -112,7 +119,9 @@ pub(crate) fn first_sums(alloc: Global, model: &Model) -> Result<Vec<Sum>, NoMem
 fn taken(sum: Sum, model: &Model, state: &State, since: u64, time: u64) -> Sum
     requires later { since ≤ time }
     requires small { IsSmall since sum.item }
-    ensures taken { result ≡ sum_at (graph_of model.now) (watched_values (map watched_of model.now.watch) state.now) since time sum }
+    ensures taken { result
+        ≡ sum_at (graph_of model.now)
+        (watched_values (map watched_of model.now.watch) state.now) since time sum }
     ensures small { IsSmall time result.item }
 {
     let value = value_at(model, state, sum.place, sum.index);
@@ -142,7 +151,9 @@ fn counted(sum: Sum, place: usize) -> Sum
 pub(crate) fn take_values(sums: &mut Vec<Sum>, model: &Model, state: &State, since: u64, time: u64)
     requires later { since ≤ time }
     requires small { All (λ s. IsSmall since s.item) sums.old.items }
-    ensures taken { sums.new.items ≡ map (sum_at (graph_of model.now) (watched_values (map watched_of model.now.watch) state.now) since time) sums.old.items }
+    ensures taken { sums.new.items
+        ≡ map (sum_at (graph_of model.now)
+        (watched_values (map watched_of model.now.watch) state.now) since time) sums.old.items }
     ensures small { All (λ s. IsSmall time s.item) sums.new.items }
 {
     for i in 0..sums.len() {
@@ -153,7 +164,8 @@ pub(crate) fn take_values(sums: &mut Vec<Sum>, model: &Model, state: &State, sin
 /// Counts an event of the vertex at a place of the watch list.
 pub(crate) fn count_at(sums: &mut Vec<Sum>, place: usize)
     ensures counted { sums.new.items ≡ map (sum_on place) sums.old.items }
-    ensures small { (ticks : ℕ) → All (λ s. IsSmall ticks s.item) sums.old.items → All (λ s. IsSmall ticks s.item) sums.new.items }
+    ensures small { (ticks : ℕ) → All (λ s. IsSmall ticks s.item) sums.old.items
+        → All (λ s. IsSmall ticks s.item) sums.new.items }
 {
     for i in 0..sums.len() {
         sums[i] = counted(sums[i], place);
@@ -169,7 +181,8 @@ pub(crate) fn items_until(
 ) -> Result<Vec<Item>, NoMemory>
     requires later { since ≤ time }
     requires small { All (λ s. IsSmall since s.item) sums.now }
-    ensures held { IfOk result (λ items. items.items ≡ map (λ s. held_until since time s.item) sums.now) }
+    ensures held { IfOk result
+        (λ items. items.items ≡ map (λ s. held_until since time s.item) sums.now) }
     ensures small { IfOk result (λ items. All (IsSmall time) items.items) }
 {
     let mut items = Vec::with_capacity(alloc, sums.len())?;

@@ -37,7 +37,14 @@ impl Model for TallyTaker {
 impl TallyTaker {
     /// Nothing was noted. All memory but that of the tally is taken here.
     pub fn begin(alloc: Global, model: &Graph) -> Result<TallyTaker, NoMemory>
-        ensures { IfOk result (λ taker. taker ≡ record { sums = sums_from (graph_of model.now) 0 (map watched_of model.now.watch); since = 0; latest = 0 }) }
+        ensures { IfOk result
+            (λ taker. taker
+            ≡ record {
+              sums = sums_from (graph_of model.now) 0
+                  (map watched_of model.now.watch);
+              since = 0;
+              latest = 0;
+            }) }
     {
         Ok(TallyTaker {
             sums: first_sums(alloc, model)?,

@@ -54,8 +54,13 @@ fn follow<'m>(
 ) -> Result<RunTally, NoMemory>
     requires soon { until ≤ 2 ^ 48 }
     requires budget { events ≤ 2 ^ 40 }
-    requires begun { (starts : Sequence ℤ) × (room : ℕ) × BegunRun model.now run.old.seed starts room run.old }
-    ensures told { IfOk result (λ tally. tally ≡ tally_of (graph_of model.now) until (look_from (graph_of model.now) run.old.seed until events (record { now = run.old.now; noted = None }))) }
+    requires begun { (starts : Sequence ℤ) × (room : ℕ)
+        × BegunRun model.now run.old.seed starts room run.old }
+    ensures told { IfOk result
+        (λ tally. tally
+        ≡ tally_of (graph_of model.now) until
+        (look_from (graph_of model.now) run.old.seed until events
+        (record { now = run.old.now; noted = None }))) }
     ensures small { IfOk result (λ tally. All (IsOfRuns 1) tally.items) }
 {
     let mut tracer = Tracer::begin(alloc, model)?;
@@ -86,7 +91,10 @@ pub fn tally_one(
     requires soon { until ≤ 2 ^ 48 }
     requires budget { events ≤ 2 ^ 40 }
     ensures accepted { IfOk result (λ tally. IsTrue (allowed (graph_of model.now) starts.now)) }
-    ensures told { IfOk result (λ tally. tally ≡ tally_of (graph_of model.now) until (look (graph_of model.now) seed starts.now until events)) }
+    ensures told { IfOk result
+        (λ tally. tally
+        ≡ tally_of (graph_of model.now) until
+        (look (graph_of model.now) seed starts.now until events)) }
     ensures small { IfOk result (λ tally. All (IsOfRuns 1) tally.items) }
     ensures err { IfErr result (RefusesTally (graph_of model.now) starts.now) }
 {

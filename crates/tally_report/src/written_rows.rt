@@ -23,7 +23,9 @@ impl Model for WrittenRows {
 
     ghost view = { λ r. (writer_under r.writer).items ++ writer_pending r.writer };
 
-    ghost invariant = { λ r. (writer_setup r.writer ≡ default_writer) × (fields_written r.writer ≡ 0) × (has_written r.writer ≡ false) };
+    ghost invariant = { λ r.
+        (writer_setup r.writer ≡ default_writer) × (fields_written r.writer ≡ 0)
+        × (has_written r.writer ≡ false) };
 }
 
 /// A writer that has written nothing.

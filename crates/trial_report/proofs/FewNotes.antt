@@ -6,7 +6,7 @@ use Rattle.model_core.specs.EventGraph.{EventGraph}
 use Rattle.model_core.specs.Run.Pending.{EntryAndRest, next_entry, same_values}
 use Rattle.model_core.specs.Run.Step.{Configuration, Fault, step}
 use Rattle.model_core.specs.Run.Machine.{At, On, Stopped, Move, Rests, Fails, Goes, before, after, look_of}
-use Rattle.model_core.specs.Run.History.{Moment, Noting, watched_values, watches, at_note, leave, noting_before_event, completed, stepped, comes, next_move, look_from}
+use Rattle.model_core.specs.Run.History.{Moment, NotesAndNoted, watched_values, watches, at_note, leave, noting_before_event, completed, stepped, comes, next_move, look_from}
 
 -- how many notes a move has at most
 Few : {S : Type 0} → Move S → Type 0
@@ -38,7 +38,7 @@ few-placed c values (Some place) = omega arith
 few-completed : (g : EventGraph) (vertex : ℕ) (c : Configuration) → length (completed g vertex c) ≤ 1
 few-completed g vertex c = few-placed c (watched_values g.watch c.state) (position (watches vertex) g.watch)
 
-few-stepped : (g : EventGraph) (vertex : ℕ) (left : Noting) → length left.notes ≤ 1 → (r : Result Configuration Fault) → Few (stepped g vertex left r)
+few-stepped : (g : EventGraph) (vertex : ℕ) (left : NotesAndNoted) → length left.notes ≤ 1 → (r : Result Configuration Fault) → Few (stepped g vertex left r)
 unfolding Few
 few-stepped g vertex left few (Ok c) = let more = few-completed g vertex c in omega (arith, few, more, length-append left.notes (completed g vertex c))
 few-stepped g vertex left few (Err f) = few

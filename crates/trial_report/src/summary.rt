@@ -15,7 +15,8 @@ use watch_trace::{Outcome, fault_word};
 
 /// How many edges vertices have, or the last count where they are more.
 fn edges_of(vertices: &[Vertex]) -> u64
-    ensures { result ≡ min (sum_by (λ v. length v.edges) (map vertex_of vertices.now)) (2 ^ 64 - 1) }
+    ensures { result
+        ≡ min (sum_by (λ v. length v.edges) (map vertex_of vertices.now)) (2 ^ 64 - 1) }
 {
     let mut edges: u64 = 0;
     for vertex in vertices {
@@ -36,7 +37,8 @@ fn edges_in(model: &Model) -> u64
 /// Puts how large a model is.
 pub(crate) fn put_size(out: &mut Vec<u8>, name: &[u8], model: &Model) -> Result<(), NoMemory>
     requires { IsValid (graph_of model.now) }
-    ensures { OnOk result (out.new.items ≡ out.old.items ++ size_line name.now (graph_of model.now)) }
+    ensures { OnOk result
+        (out.new.items ≡ out.old.items ++ size_line name.now (graph_of model.now)) }
 {
     put_bytes(out, name)?;
     put_counted(out, b" vertices ", model.vertices.len() as u64)?;
@@ -83,7 +85,8 @@ pub(crate) fn put_run(
     events: u64,
     run: RunMeasure,
 ) -> Result<(), NoMemory>
-    ensures { OnOk result (out.new.items ≡ out.old.items ++ measure_line name.now until events run) }
+    ensures { OnOk result
+        (out.new.items ≡ out.old.items ++ measure_line name.now until events run) }
 {
     put_texts(out, &[name, b" "])?;
     put_standing(out, until, events, run.outcome)?;

@@ -30,7 +30,9 @@ fn put_run_of(
     requires plain { (vertex_at (graph_of model.now) 0).parameters ≡ [] }
     requires soon { until ≤ 2 ^ 48 }
     requires budget { events ≤ 2 ^ 40 }
-    ensures { OnOk result (out.new.items ≡ out.old.items ++ run_line name.now (graph_of model.now) seed until events) }
+    ensures { OnOk result
+        (out.new.items
+        ≡ out.old.items ++ run_line name.now (graph_of model.now) seed until events) }
 {
     let run = measure(alloc, model, seed, until, events)?;
     put_run(out, name, until, events, run)
@@ -50,7 +52,12 @@ fn put_reduction(
     requires plain { (vertex_at (graph_of reduced.now.model) 0).parameters ≡ [] }
     requires soon { until ≤ 2 ^ 48 }
     requires budget { events ≤ 2 ^ 40 }
-    ensures { (g : EventGraph) → IsMeasureOf g seed until events run → OnOk result (out.new.items ≡ out.old.items ++ reduction_lines g (graph_of reduced.now.model) (length reduced.now.applications) seed until events) }
+    ensures { (g : EventGraph) → IsMeasureOf g seed until events run
+        → OnOk result
+        (out.new.items
+        ≡ out.old.items
+        ++ reduction_lines g (graph_of reduced.now.model)
+        (length reduced.now.applications) seed until events) }
 {
     put_size(out, b"reduced", &reduced.model)?;
     put_applications(out, reduced.applications.len())?;

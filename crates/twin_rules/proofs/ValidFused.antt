@@ -8,7 +8,7 @@ use Rattle.mark_laws.proofs.EntailedMarks.{same-place}
 use Rattle.model_core.specs.EventGraph.{EventGraph, EventVertex, WatchedVertex}
 use Rattle.model_core.specs.Run.Step.{no_vertex}
 use Rattle.model_core.specs.Text.Canonical.{canonical}
-use Rattle.model_core.specs.Text.Spellable.{HasOne, IsSpellable}
+use Rattle.model_core.specs.Text.Spellable.{IsNonEmpty, IsSpellable}
 use Rattle.model_core.specs.Static.OwnRules.{parameters_of, KeepsStaticRules}
 use Rattle.model_core.specs.Rules.Drop.{vertex_renumbered}
 use Rattle.model_core.proofs.Among.{of-among}
@@ -29,7 +29,7 @@ some-remove [] (suc k) = nothing
 some-remove (x ∷ xs) zero = without x (some-all xs)
 some-remove (x ∷ xs) (suc k) = with_it x (some-remove xs k)
 
-has-some : {A : Type 0} (xs : List A) → 0 < length xs → HasOne xs
+has-some : {A : Type 0} (xs : List A) → 0 < length xs → IsNonEmpty xs
 has-some [] some = absurd (omega (arith, some))
 has-some (x ∷ xs) some = tt
 

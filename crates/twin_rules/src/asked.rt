@@ -145,7 +145,8 @@ impl PairSearch {
     /// Whether the vertex has changed, or changes when `gone` is taken away. If `led` is false, no edge leads to `gone`.
     fn changes(&self, model: &Model, vertex: usize, gone: usize, led: bool) -> bool
         requires { led ≡ false → NoneLeadsTo (graph_of model.now) gone }
-        ensures { result ≡ (has_changed self.now.changed vertex || some_leads (graph_of model.now) vertex gone) }
+        ensures { result
+            ≡ (has_changed self.now.changed vertex || some_leads (graph_of model.now) vertex gone) }
     {
         self.has_changed(vertex) || (led && some_leads(model, vertex, gone))
     }
@@ -156,7 +157,10 @@ impl PairSearch {
         requires { led ≡ false → NoneLeadsTo (graph_of model.now) gone }
         ensures keep { self.new.keep ≡ self.old.keep }
         ensures gone { self.new.gone ≡ self.old.gone }
-        ensures changed { (k : ℕ) → has_changed self.new.changed k ≡ (has_changed self.old.changed (place_before gone k) || some_leads (graph_of model.now) (place_before gone k) gone) }
+        ensures changed { (k : ℕ)
+            → has_changed self.new.changed k
+            ≡ (has_changed self.old.changed (place_before gone k)
+            || some_leads (graph_of model.now) (place_before gone k) gone) }
     {
         for place in 0..VERTICES_MAX {
             self.changed[place] = self.changes(model, place_before(gone, place), gone, led);
@@ -166,7 +170,8 @@ impl PairSearch {
     /// The place that the pair has when `gone` is taken away.
     fn move_up(&mut self, gone: usize)
         ensures keep { self.new.keep ≡ place_without gone self.old.keep }
-        ensures gone { self.new.gone ≡ cond (self.old.keep == gone) 0 (place_without gone self.old.gone) }
+        ensures gone { self.new.gone
+            ≡ cond (self.old.keep == gone) 0 (place_without gone self.old.gone) }
         ensures changed { self.new.changed ≡ self.old.changed }
     {
         if self.keep == gone {
@@ -181,7 +186,8 @@ impl PairSearch {
 
     /// Counts all pairs before this one as looked at where it is known that they aren't alike, and else none.
     fn count_as_compared(&mut self, keep: usize, gone: usize, known: bool)
-        ensures { (g : EventGraph) → NoneAlike g self.old → (known ≡ true → NoneAlikeBefore g (Some (keep, gone))) → NoneAlike g self.new }
+        ensures { (g : EventGraph) → NoneAlike g self.old
+            → (known ≡ true → NoneAlikeBefore g (Some (keep, gone))) → NoneAlike g self.new }
     {
         if !known {
             self.up_to(0, 0);
@@ -199,7 +205,8 @@ impl PairSearch {
         requires known { known ≡ true → NoneAlikeBefore (graph_of model.now) (Some (keep, gone)) }
         ensures asked { NoneAlike (fused (graph_of model.now) keep gone) self.new }
         ensures skips { SkipsUnchanged self.new }
-        ensures changed { (x : ℕ) → has_changed self.new.changed x ≡ false → some_leads (graph_of model.now) (place_before gone x) gone ≡ false }
+        ensures changed { (x : ℕ) → has_changed self.new.changed x ≡ false
+            → some_leads (graph_of model.now) (place_before gone x) gone ≡ false }
     {
         self.count_as_compared(keep, gone, known);
         self.mark(model, gone, led);

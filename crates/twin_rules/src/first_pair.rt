@@ -29,7 +29,8 @@ fn are_twins(
     requires keep { keep < length model.now.vertices }
     requires gone { gone < length model.now.vertices }
     ensures twins { result ≡ are_twins (graph_of model.now) keep gone }
-    ensures known { known.new ≡ true → (known.old ≡ true) × (result ≡ false → are_alike (graph_of model.now) keep gone ≡ false) }
+    ensures known { known.new ≡ true
+        → (known.old ≡ true) × (result ≡ false → are_alike (graph_of model.now) keep gone ≡ false) }
 {
     if !row.may_be_alike(prints, gone) {
         return false;
@@ -58,7 +59,8 @@ fn first_twin_of(
     requires skips { SkipsUnchanged asked.now }
     requires keep { keep < length model.now.vertices }
     ensures found { result ≡ first_twin_of (graph_of model.now) keep }
-    ensures known { known.new ≡ true → (known.old ≡ true) × NoneAlikeWith (graph_of model.now) keep result }
+    ensures known { known.new ≡ true
+        → (known.old ≡ true) × NoneAlikeWith (graph_of model.now) keep result }
 {
     let count = model.vertices.len();
     let mut gone = next_candidate(model, prints, asked, keep, keep + 1);

@@ -50,7 +50,9 @@ impl Marks {
 
     /// Marks the target of an edge, or only where the edge cancels its events.
     fn mark_target(&mut self, cancelled: bool, edge: &Edge)
-        ensures { (x : ℕ) → has_mark self.new x ≡ (has_mark self.old x || marks_at cancelled x (edge_of edge.now)) }
+        ensures { (x : ℕ)
+            → has_mark self.new x
+            ≡ (has_mark self.old x || marks_at cancelled x (edge_of edge.now)) }
     {
         if !cancelled || edge.form.is_cancelling() {
             self.mark(edge.target);
@@ -59,7 +61,9 @@ impl Marks {
 
     /// Marks the targets of edges, or only of those that cancel their events.
     fn mark_targets(&mut self, cancelled: bool, edges: &[Edge])
-        ensures { (x : ℕ) → has_mark self.new x ≡ (has_mark self.old x || list_any (marks_at cancelled x) (map edge_of edges.now)) }
+        ensures { (x : ℕ)
+            → has_mark self.new x
+            ≡ (has_mark self.old x || list_any (marks_at cancelled x) (map edge_of edges.now)) }
     {
         for edge in edges {
             self.mark_target(cancelled, edge);
@@ -68,7 +72,10 @@ impl Marks {
 
     /// Marks the targets of the edges of vertices, or only of those that cancel their events.
     fn mark_all(&mut self, cancelled: bool, vertices: &[Vertex])
-        ensures { (x : ℕ) → has_mark self.new x ≡ (has_mark self.old x || list_any (one_marks cancelled x) (map vertex_of vertices.now)) }
+        ensures { (x : ℕ)
+            → has_mark self.new x
+            ≡ (has_mark self.old x
+            || list_any (one_marks cancelled x) (map vertex_of vertices.now)) }
     {
         for vertex in vertices {
             self.mark_targets(cancelled, vertex.edges.as_slice());
@@ -77,7 +84,8 @@ impl Marks {
 
     /// Marks what is watched, where it is a vertex.
     fn mark_item(&mut self, item: &Watch)
-        ensures { (x : ℕ) → has_mark self.new x ≡ (has_mark self.old x || watches x (watched_of item.now)) }
+        ensures { (x : ℕ)
+            → has_mark self.new x ≡ (has_mark self.old x || watches x (watched_of item.now)) }
     {
         match item {
             Watch::Variable { var: _ } => {}
@@ -87,7 +95,9 @@ impl Marks {
 
     /// Marks the vertices that are watched.
     fn mark_watched(&mut self, watch: &[Watch])
-        ensures { (x : ℕ) → has_mark self.new x ≡ (has_mark self.old x || list_any (watches x) (map watched_of watch.now)) }
+        ensures { (x : ℕ)
+            → has_mark self.new x
+            ≡ (has_mark self.old x || list_any (watches x) (map watched_of watch.now)) }
     {
         for item in watch {
             self.mark_item(item);
@@ -106,7 +116,8 @@ impl Marks {
 
     /// The vertices to which one of the edges leads.
     pub(crate) fn target_marks(edges: &[Edge]) -> Marks
-        ensures { (x : ℕ) → has_mark result x ≡ false → list_any (marks_at false x) (map edge_of edges.now) ≡ false }
+        ensures { (x : ℕ) → has_mark result x ≡ false
+            → list_any (marks_at false x) (map edge_of edges.now) ≡ false }
     {
         let mut marks = Marks::none();
         marks.mark_targets(false, edges);
@@ -133,7 +144,9 @@ impl Marks {
 
     /// Follows the marks when `gone` is taken away and `keep` takes its mark.
     pub(crate) fn fuse(&mut self, keep: usize, gone: usize)
-        ensures { (x : ℕ) → has_mark self.new x ≡ (has_mark self.old (place_before gone x) || (has_mark self.old gone && (keep == x))) }
+        ensures { (x : ℕ)
+            → has_mark self.new x
+            ≡ (has_mark self.old (place_before gone x) || (has_mark self.old gone && (keep == x))) }
     {
         let marked = self.has(gone);
         self.forget(gone);

@@ -88,8 +88,10 @@ impl FingerprintTable {
     /// Keeps another print of the targets of a vertex's edges, if anything is kept of it.
     fn set_aims(&mut self, place: usize, aims: u32)
         ensures length { length self.new ≡ length self.old }
-        ensures others { (x : ℕ) → (x == place) ≡ false → slice_get self.new x ≡ slice_get self.old x }
-        ensures here { (p : Kept) → slice_get self.old place ≡ Some p → slice_get self.new place ≡ Some (record p { aims = aims }) }
+        ensures others { (x : ℕ) → (x == place) ≡ false
+            → slice_get self.new x ≡ slice_get self.old x }
+        ensures here { (p : Kept) → slice_get self.old place ≡ Some p
+            → slice_get self.new place ≡ Some (record p { aims = aims }) }
         ensures beyond { slice_get self.old place ≡ None → slice_get self.new place ≡ None }
     {
         if place < self.count {
@@ -152,7 +154,8 @@ impl FingerprintTable {
     fn first_fingerprint(model: &Model, barred: &Marks, place: usize) -> VertexFingerprint
         requires there { place < length model.now.vertices }
         requires within { place < LIMIT }
-        ensures doing { result.doing ≡ half (vertex_fingerprint (vertex_at (graph_of model.now) place)) }
+        ensures doing { result.doing
+            ≡ half (vertex_fingerprint (vertex_at (graph_of model.now) place)) }
         ensures barred { result.barred ≡ has_mark barred.now place }
     {
         VertexFingerprint {

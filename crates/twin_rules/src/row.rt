@@ -27,7 +27,8 @@ pub(crate) struct Row {
 
 /// The vertices that the edges of the vertex at this place lead to.
 fn target_marks(model: &Model, place: usize) -> Marks
-    ensures { (v : ℕ) → has_mark result v ≡ false → some_leads (graph_of model.now) place v ≡ false }
+    ensures { (v : ℕ) → has_mark result v ≡ false
+        → some_leads (graph_of model.now) place v ≡ false }
 {
     match model.vertices.as_slice().get(place) {
         Some(vertex) => Marks::target_marks(vertex.edges.as_slice()),
@@ -44,7 +45,8 @@ fn fingerprints_agree(own: VertexFingerprint, other: VertexFingerprint, leads: b
 
 /// Whether two vertices may be alike by what is kept of them, wherever their edges lead.
 fn may_do_the_same(prints: &FingerprintTable, keep: usize, gone: usize) -> bool
-    ensures { (g : EventGraph) → AreFingerprints g prints.now → result ≡ false → are_alike g keep gone ≡ false }
+    ensures { (g : EventGraph) → AreFingerprints g prints.now → result ≡ false
+        → are_alike g keep gone ≡ false }
 {
     match (prints.at(keep), prints.at(gone)) {
         (Some(own), Some(other)) => fingerprints_agree(own, other, true),
@@ -64,7 +66,8 @@ pub(crate) fn next_candidate(
     requires asked { NoneAlike (graph_of model.now) asked.now }
     requires skips { SkipsUnchanged asked.now }
     ensures behind { from ≤ result }
-    ensures passed { (y : ℕ) → from ≤ y → y < result → are_alike (graph_of model.now) keep y ≡ false }
+    ensures passed { (y : ℕ) → from ≤ y → y < result
+        → are_alike (graph_of model.now) keep y ≡ false }
 {
     let count = model.vertices.len();
     let mut gone = asked.next(keep, from);
@@ -89,7 +92,8 @@ impl Row {
 
     /// Whether the vertex may be alike with the one at this place, as far as fingerprints show.
     pub(crate) fn may_be_alike(&self, prints: &FingerprintTable, gone: usize) -> bool
-        ensures { (g : EventGraph) (keep : ℕ) → AreFingerprints g prints.now → IsRow g prints.now keep self.now → result ≡ false → are_alike g keep gone ≡ false }
+        ensures { (g : EventGraph) (keep : ℕ) → AreFingerprints g prints.now
+            → IsRow g prints.now keep self.now → result ≡ false → are_alike g keep gone ≡ false }
     {
         match (self.print, prints.at(gone)) {
             (Some(own), Some(other)) => {

@@ -21,14 +21,18 @@ pub(crate) fn can_be_cancelled(model: &Model, target: usize) -> bool
 
 /// Whether neither of two vertices is watched.
 pub(crate) fn are_unwatched(model: &Model, a: usize, b: usize) -> bool
-    ensures { result ≡ (not (is_watched_vertex (graph_of model.now) a) && not (is_watched_vertex (graph_of model.now) b)) }
+    ensures { result
+        ≡ (not (is_watched_vertex (graph_of model.now) a)
+        && not (is_watched_vertex (graph_of model.now) b)) }
 {
     !is_watched(model, a) && !is_watched(model, b)
 }
 
 /// Whether no edge of the model cancels events of either of two vertices.
 pub(crate) fn are_uncancelled(model: &Model, a: usize, b: usize) -> bool
-    ensures { result ≡ (not (can_be_cancelled (graph_of model.now) a) && not (can_be_cancelled (graph_of model.now) b)) }
+    ensures { result
+        ≡ (not (can_be_cancelled (graph_of model.now) a)
+        && not (can_be_cancelled (graph_of model.now) b)) }
 {
     !can_be_cancelled(model, a) && !can_be_cancelled(model, b)
 }

@@ -38,7 +38,8 @@ pub fn add_variables(out: &mut Vec<usize>, expr: &Expr) -> Result<(), NoMemory>
 
 /// Adds the variables that occur in expressions.
 pub fn add_all_variables(out: &mut Vec<usize>, exprs: &[Expr]) -> Result<(), NoMemory>
-    ensures { OnOk result (out.new.items ≡ out.old.items ++ flat_map variables_in (map expression_of exprs.now)) }
+    ensures { OnOk result
+        (out.new.items ≡ out.old.items ++ flat_map variables_in (map expression_of exprs.now)) }
 {
     for expr in exprs {
         add_variables(out, expr)?;
@@ -48,7 +49,8 @@ pub fn add_all_variables(out: &mut Vec<usize>, exprs: &[Expr]) -> Result<(), NoM
 
 /// Adds the variables that occur in the index of a target.
 pub fn add_index_reads(out: &mut Vec<usize>, target: &Target) -> Result<(), NoMemory>
-    ensures { OnOk result (out.new.items ≡ out.old.items ++ location_reads (location_of target.now)) }
+    ensures { OnOk result
+        (out.new.items ≡ out.old.items ++ location_reads (location_of target.now)) }
 {
     match &target.index {
         None => Ok(()),
@@ -58,7 +60,8 @@ pub fn add_index_reads(out: &mut Vec<usize>, target: &Target) -> Result<(), NoMe
 
 /// Adds the variables that occur in the indexes of targets.
 fn add_all_index_reads(out: &mut Vec<usize>, targets: &[Target]) -> Result<(), NoMemory>
-    ensures { OnOk result (out.new.items ≡ out.old.items ++ flat_map location_reads (map location_of targets.now)) }
+    ensures { OnOk result
+        (out.new.items ≡ out.old.items ++ flat_map location_reads (map location_of targets.now)) }
 {
     for target in targets {
         add_index_reads(out, target)?;
@@ -85,7 +88,8 @@ fn add_change_reads(out: &mut Vec<usize>, change: &Change) -> Result<(), NoMemor
 
 /// Adds what changes read.
 fn add_all_change_reads(out: &mut Vec<usize>, changes: &[Change]) -> Result<(), NoMemory>
-    ensures { OnOk result (out.new.items ≡ out.old.items ++ flat_map change_reads (map change_of changes.now)) }
+    ensures { OnOk result
+        (out.new.items ≡ out.old.items ++ flat_map change_reads (map change_of changes.now)) }
 {
     for change in changes {
         add_change_reads(out, change)?;
@@ -108,7 +112,9 @@ fn add_delay_reads(out: &mut Vec<usize>, delay: &Delay) -> Result<(), NoMemory>
 
 /// Adds what the delay of an edge of this form reads.
 fn add_timing_reads(out: &mut Vec<usize>, form: &EdgeForm) -> Result<(), NoMemory>
-    ensures { OnOk result (out.new.items ≡ out.old.items ++ option_map_or delay_reads (delay_given (edge_kind_of form.now)) []) }
+    ensures { OnOk result
+        (out.new.items
+        ≡ out.old.items ++ option_map_or delay_reads (delay_given (edge_kind_of form.now)) []) }
 {
     match form {
         EdgeForm::Schedule { delay, priority: _ } => add_delay_reads(out, delay),
@@ -137,7 +143,8 @@ fn add_edge_reads(out: &mut Vec<usize>, edge: &Edge) -> Result<(), NoMemory>
 
 /// Adds what edges read.
 fn add_all_edge_reads(out: &mut Vec<usize>, edges: &[Edge]) -> Result<(), NoMemory>
-    ensures { OnOk result (out.new.items ≡ out.old.items ++ flat_map edge_reads (map edge_of edges.now)) }
+    ensures { OnOk result
+        (out.new.items ≡ out.old.items ++ flat_map edge_reads (map edge_of edges.now)) }
 {
     for edge in edges {
         add_edge_reads(out, edge)?;
@@ -155,7 +162,9 @@ pub fn add_vertex_reads(out: &mut Vec<usize>, vertex: &Vertex) -> Result<(), NoM
 
 /// Adds the variables that targets name.
 pub(crate) fn add_target_vars(out: &mut Vec<usize>, targets: &[Target]) -> Result<(), NoMemory>
-    ensures { OnOk result (out.new.items ≡ out.old.items ++ map (λ (l : Location). l.variable) (map location_of targets.now)) }
+    ensures { OnOk result
+        (out.new.items
+        ≡ out.old.items ++ map (λ (l : Location). l.variable) (map location_of targets.now)) }
 {
     for target in targets {
         out.push(target.var)?;
@@ -179,7 +188,8 @@ fn add_change_writes(out: &mut Vec<usize>, change: &Change) -> Result<(), NoMemo
 
 /// Adds what changes write.
 fn add_all_change_writes(out: &mut Vec<usize>, changes: &[Change]) -> Result<(), NoMemory>
-    ensures { OnOk result (out.new.items ≡ out.old.items ++ flat_map change_writes (map change_of changes.now)) }
+    ensures { OnOk result
+        (out.new.items ≡ out.old.items ++ flat_map change_writes (map change_of changes.now)) }
 {
     for change in changes {
         add_change_writes(out, change)?;

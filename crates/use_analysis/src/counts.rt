@@ -38,7 +38,9 @@ impl std::marker::Model for UseCounts {
 
     ghost view = { λ c. record { readers = numbers_of c.numbers.readers.items; setters = numbers_of c.numbers.setters.items } };
 
-    ghost invariant = { λ c. StampedTo c.numbers.last c.numbers.readers.items × StampedTo c.numbers.last c.numbers.setters.items };
+    ghost invariant = { λ c.
+        StampedTo c.numbers.last c.numbers.readers.items
+        × StampedTo c.numbers.last c.numbers.setters.items };
 }
 
 /// So many numbers, all 0 and with no part's stamp.
@@ -106,7 +108,8 @@ fn move_edge(numbers: &mut Numbers, way: Way, edge: &Edge)
     requires readers { StampedTo numbers.old.last numbers.old.readers.items }
     requires setters { StampedTo numbers.old.last numbers.old.setters.items }
     ensures readers { numbers_of numbers.new.readers.items
-        ≡ changed_where (is_among (edge_reads (edge_of edge.now))) (shifted way) 0 (numbers_of numbers.old.readers.items) }
+        ≡ changed_where (is_among (edge_reads (edge_of edge.now))) (shifted way) 0
+        (numbers_of numbers.old.readers.items) }
     ensures setters { numbers_of numbers.new.setters.items ≡ numbers_of numbers.old.setters.items }
     ensures stamped_readers { StampedTo numbers.new.last numbers.new.readers.items }
     ensures stamped_setters { StampedTo numbers.new.last numbers.new.setters.items }
@@ -120,9 +123,11 @@ fn move_change(numbers: &mut Numbers, way: Way, change: &Change)
     requires readers { StampedTo numbers.old.last numbers.old.readers.items }
     requires setters { StampedTo numbers.old.last numbers.old.setters.items }
     ensures readers { numbers_of numbers.new.readers.items
-        ≡ changed_where (is_among (change_reads (change_of change.now))) (shifted way) 0 (numbers_of numbers.old.readers.items) }
+        ≡ changed_where (is_among (change_reads (change_of change.now))) (shifted way) 0
+        (numbers_of numbers.old.readers.items) }
     ensures setters { numbers_of numbers.new.setters.items
-        ≡ changed_where (is_among (change_writes (change_of change.now))) (shifted way) 0 (numbers_of numbers.old.setters.items) }
+        ≡ changed_where (is_among (change_writes (change_of change.now))) (shifted way) 0
+        (numbers_of numbers.old.setters.items) }
     ensures stamped_readers { StampedTo numbers.new.last numbers.new.readers.items }
     ensures stamped_setters { StampedTo numbers.new.last numbers.new.setters.items }
 {
@@ -161,7 +166,11 @@ impl UseCounts {
     /// Counts an edge: each variable that it reads has one reader more.
     pub fn add_edge(&mut self, edge: &Edge)
         requires { CanRaise (edge_reads (edge_of edge.now)) self.old.readers }
-        ensures { self.new ≡ record self.old { readers = raised_at (edge_reads (edge_of edge.now)) self.old.readers } }
+        ensures { self.new
+            ≡ record self.old {
+              readers = raised_at
+                  (edge_reads (edge_of edge.now)) self.old.readers;
+            } }
     {
         move_edge(&mut self.numbers, Way::Up, edge);
     }
@@ -182,7 +191,11 @@ impl UseCounts {
     /// Takes away what counting the edge added.
     pub fn take_edge(&mut self, edge: &Edge)
         requires { CanLower (edge_reads (edge_of edge.now)) self.old.readers }
-        ensures { self.new ≡ record self.old { readers = lowered_at (edge_reads (edge_of edge.now)) self.old.readers } }
+        ensures { self.new
+            ≡ record self.old {
+              readers = lowered_at
+                  (edge_reads (edge_of edge.now)) self.old.readers;
+            } }
     {
         move_edge(&mut self.numbers, Way::Down, edge);
     }

@@ -38,7 +38,9 @@ fn delay_passes<T: NumberTest>(test: &T, delay: &Delay) -> bool
 }
 
 fn timing_passes<T: NumberTest>(test: &T, form: &EdgeForm) -> bool
-    ensures { result ≡ list_any (T.test test.now) (option_map_or delay_streams (delay_given (edge_kind_of form.now)) []) }
+    ensures { result
+        ≡ list_any (T.test test.now)
+        (option_map_or delay_streams (delay_given (edge_kind_of form.now)) []) }
 {
     match form {
         EdgeForm::Schedule { delay, priority: _ } => delay_passes(test, delay),
@@ -49,7 +51,8 @@ fn timing_passes<T: NumberTest>(test: &T, form: &EdgeForm) -> bool
 }
 
 fn one_change_passes<T: NumberTest>(test: &T, changes: &[Change]) -> bool
-    ensures { result ≡ list_any (T.test test.now) (flat_map change_streams (map change_of changes.now)) }
+    ensures { result
+        ≡ list_any (T.test test.now) (flat_map change_streams (map change_of changes.now)) }
 {
     for change in changes {
         if change_passes(test, change) {

@@ -88,7 +88,8 @@ fn move_in(numbers: &mut [Stamped], part: Part, expr: &Expr)
 
 /// Moves the numbers of the variables that occur in expressions.
 fn move_in_all(numbers: &mut [Stamped], part: Part, exprs: &[Expr])
-    ensures { numbers.new ≡ moved_at part (flat_map variables_in (map expression_of exprs.now)) numbers.old }
+    ensures { numbers.new
+        ≡ moved_at part (flat_map variables_in (map expression_of exprs.now)) numbers.old }
 {
     for expr in exprs {
         move_in(numbers, part, expr);
@@ -106,7 +107,8 @@ fn move_in_index(numbers: &mut [Stamped], part: Part, target: &Target)
 
 /// Moves the numbers of the variables that occur in the indexes of targets.
 fn move_in_indexes(numbers: &mut [Stamped], part: Part, targets: &[Target])
-    ensures { numbers.new ≡ moved_at part (flat_map location_reads (map location_of targets.now)) numbers.old }
+    ensures { numbers.new
+        ≡ moved_at part (flat_map location_reads (map location_of targets.now)) numbers.old }
 {
     for target in targets {
         move_in_index(numbers, part, target);
@@ -132,7 +134,9 @@ pub(crate) fn move_read_by_change(numbers: &mut [Stamped], part: Part, change: &
 
 /// Moves the numbers of the variables that targets name.
 fn move_targets(numbers: &mut [Stamped], part: Part, targets: &[Target])
-    ensures { numbers.new ≡ moved_at part (map (λ (l : Location). l.variable) (map location_of targets.now)) numbers.old }
+    ensures { numbers.new
+        ≡ moved_at part
+        (map (λ (l : Location). l.variable) (map location_of targets.now)) numbers.old }
 {
     for target in targets {
         move_at(numbers, part, target.var);
@@ -168,7 +172,9 @@ fn move_in_delay(numbers: &mut [Stamped], part: Part, delay: &Delay)
 
 /// Moves the numbers of what the delay of an edge of this form reads.
 fn move_in_timing(numbers: &mut [Stamped], part: Part, form: &EdgeForm)
-    ensures { numbers.new ≡ moved_at part (option_map_or delay_reads (delay_given (edge_kind_of form.now)) []) numbers.old }
+    ensures { numbers.new
+        ≡ moved_at part
+        (option_map_or delay_reads (delay_given (edge_kind_of form.now)) []) numbers.old }
 {
     match form {
         EdgeForm::Schedule { delay, priority: _ } => move_in_delay(numbers, part, delay),

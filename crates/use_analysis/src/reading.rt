@@ -89,7 +89,8 @@ fn reads_of_delay(delay: &Delay, var: usize) -> bool
 
 /// Whether the delay of an edge of this form reads a variable.
 fn reads_of_timing(form: &EdgeForm, var: usize) -> bool
-    ensures { result ≡ is_among (option_map_or delay_reads (delay_given (edge_kind_of form.now)) []) var }
+    ensures { result
+        ≡ is_among (option_map_or delay_reads (delay_given (edge_kind_of form.now)) []) var }
 {
     match form {
         EdgeForm::Schedule { delay, priority: _ } => reads_of_delay(delay, var),

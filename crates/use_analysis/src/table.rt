@@ -95,7 +95,8 @@ fn rows_unused(alloc: Global, count: usize) -> Result<Vec<UseRow>, NoMemory>
 
 /// Notes one use of the variable at this place, if there is one.
 fn note_at(rows: &mut Vec<UseRow>, var: usize, used: Use) -> Result<(), NoMemory>
-    ensures { OnOk result (map uses_row rows.new.items ≡ with_place (noted used) var (map uses_row rows.old.items)) }
+    ensures { OnOk result
+        (map uses_row rows.new.items ≡ with_place (noted used) var (map uses_row rows.old.items)) }
 {
     match rows.get_mut(var) {
         Some(row) => row.note(used),
@@ -105,7 +106,8 @@ fn note_at(rows: &mut Vec<UseRow>, var: usize, used: Use) -> Result<(), NoMemory
 
 /// Notes this use of each of these variables.
 fn note_all(rows: &mut Vec<UseRow>, vars: &[usize], used: Use) -> Result<(), NoMemory>
-    ensures { OnOk result (map uses_row rows.new.items ≡ noted_all used vars.now (map uses_row rows.old.items)) }
+    ensures { OnOk result
+        (map uses_row rows.new.items ≡ noted_all used vars.now (map uses_row rows.old.items)) }
 {
     for var in vars {
         note_at(rows, *var, used)?;
@@ -115,7 +117,10 @@ fn note_all(rows: &mut Vec<UseRow>, vars: &[usize], used: Use) -> Result<(), NoM
 
 /// Notes which variables are watched.
 fn note_watched(rows: &mut Vec<UseRow>, watch: &[Watch]) -> Result<(), NoMemory>
-    ensures { OnOk result (map uses_row rows.new.items ≡ noted_all Use.Watched (watched_variables (map watched_of watch.now)) (map uses_row rows.old.items)) }
+    ensures { OnOk result
+        (map uses_row rows.new.items
+        ≡ noted_all Use.Watched (watched_variables (map watched_of watch.now))
+        (map uses_row rows.old.items)) }
 {
     for watched in watch {
         if let Watch::Variable { var } = *watched {
@@ -132,7 +137,9 @@ fn note_vertex(
     place: usize,
     vertex: &Vertex,
 ) -> Result<(), NoMemory>
-    ensures { OnOk result (map uses_row rows.new.items ≡ noted_vertex place (vertex_of vertex.now) (map uses_row rows.old.items)) }
+    ensures { OnOk result
+        (map uses_row rows.new.items
+        ≡ noted_vertex place (vertex_of vertex.now) (map uses_row rows.old.items)) }
 {
     let mut reads = Vec::new(alloc);
     add_vertex_reads(&mut reads, vertex)?;
@@ -144,7 +151,9 @@ fn note_vertex(
 
 /// Notes the uses by these vertices, of which the first is at place 0.
 fn note_vertices(alloc: Global, rows: &mut Vec<UseRow>, vertices: &[Vertex]) -> Result<(), NoMemory>
-    ensures { OnOk result (map uses_row rows.new.items ≡ noted_vertices 0 (map vertex_of vertices.now) (map uses_row rows.old.items)) }
+    ensures { OnOk result
+        (map uses_row rows.new.items
+        ≡ noted_vertices 0 (map vertex_of vertices.now) (map uses_row rows.old.items)) }
 {
     for (place, vertex) in vertices.iter().enumerate() {
         note_vertex(alloc, rows, place, vertex)?;

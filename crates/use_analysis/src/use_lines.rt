@@ -14,7 +14,10 @@ use std::alloc::Global;
 
 /// Adds the names of vertices, each after a comma.
 fn put_later_users(out: &mut Vec<u8>, model: &Model, vertices: &[usize]) -> Result<(), NoMemory>
-    ensures { OnOk result (out.new.items ≡ out.old.items ++ flat_map (λ (w : ℕ). codes "," ++ vertex_name (graph_of model.now) w) vertices.now) }
+    ensures { OnOk result
+        (out.new.items
+        ≡ out.old.items
+        ++ flat_map (λ (w : ℕ). codes "," ++ vertex_name (graph_of model.now) w) vertices.now) }
 {
     for vertex in vertices {
         put_texts(out, &[b",", model.vertex_name(*vertex)])?;
@@ -24,7 +27,8 @@ fn put_later_users(out: &mut Vec<u8>, model: &Model, vertices: &[usize]) -> Resu
 
 /// Adds the names of vertices with a comma between two, or a dash where there are none.
 fn put_users(out: &mut Vec<u8>, model: &Model, vertices: &[usize]) -> Result<(), NoMemory>
-    ensures { OnOk result (out.new.items ≡ out.old.items ++ users_text (graph_of model.now) vertices.now) }
+    ensures { OnOk result
+        (out.new.items ≡ out.old.items ++ users_text (graph_of model.now) vertices.now) }
 {
     let [first, rest @ ..] = vertices else {
         return put_bytes(out, b"-");
@@ -42,7 +46,8 @@ fn yes_or_no(watched: bool) -> &'static [u8]
 
 /// Adds the line of the variable at a place, with its row of the table.
 fn put_uses_line(out: &mut Vec<u8>, model: &Model, var: usize, row: &UseRow) -> Result<(), NoMemory>
-    ensures { OnOk result (out.new.items ≡ out.old.items ++ uses_line (graph_of model.now) var (uses_row row.now)) }
+    ensures { OnOk result
+        (out.new.items ≡ out.old.items ++ uses_line (graph_of model.now) var (uses_row row.now)) }
 {
     put_texts(out, &[model.variable_name(var), b" readers "])?;
     put_users(out, model, row.readers.as_slice())?;

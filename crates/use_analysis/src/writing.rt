@@ -23,7 +23,9 @@ fn one_passes<T: NumberTest>(test: &T, vars: &[usize]) -> bool
 }
 
 fn one_target_passes<T: NumberTest>(test: &T, targets: &[Target]) -> bool
-    ensures { result ≡ list_any (T.test test.now) (map (λ (l : Location). l.variable) (map location_of targets.now)) }
+    ensures { result
+        ≡ list_any (T.test test.now)
+        (map (λ (l : Location). l.variable) (map location_of targets.now)) }
 {
     for target in targets {
         if test.passes(target.var) {
@@ -47,7 +49,8 @@ fn one_changed_passes<T: NumberTest>(test: &T, change: &Change) -> bool
 }
 
 fn one_of_changes_passes<T: NumberTest>(test: &T, changes: &[Change]) -> bool
-    ensures { result ≡ list_any (T.test test.now) (flat_map change_writes (map change_of changes.now)) }
+    ensures { result
+        ≡ list_any (T.test test.now) (flat_map change_writes (map change_of changes.now)) }
 {
     for change in changes {
         if one_changed_passes(test, change) {

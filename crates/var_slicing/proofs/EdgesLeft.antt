@@ -8,7 +8,7 @@ use Rattle.model_core.specs.EventGraph.{EventGraph, EventEdge, Delay, Fixed, Dra
 use Rattle.model_core.specs.Run.State.{State}
 use Rattle.model_core.specs.Run.Value.{OrFault, ◌>>=◌, in_turn, value_of, is_one}
 use Rattle.model_core.specs.Run.Changes.{taken_from, one_more, drawn_value}
-use Rattle.model_core.specs.Run.Pending.{Entry, is_of, is_with, same_values, without_next}
+use Rattle.model_core.specs.Run.Pending.{Entry, is_of, is_event_with, same_values, without_next}
 use Rattle.model_core.specs.Run.Edges.{EdgeState, Waiting, delay_ticks, delay_of, scheduled, act, treat_edge}
 use Rattle.model_core.specs.Run.Step.{vertex_at}
 use Rattle.model_core.specs.Rules.MarkedPlaces.{rank}
@@ -41,7 +41,7 @@ keeps_due g marks = record { times = λ e. refl; priorities = λ e. refl }
 
 -- ---- tests of entries
 
-with-left : (g : EventGraph) (marks : List Bool) (target : ℕ) (xs : List ℤ) → AllByRecursion (Marked marks) (vertex_at g target).parameters → (e : Entry) → is_with target xs (entry_left g marks e) ≡ is_with target xs e
+with-left : (g : EventGraph) (marks : List Bool) (target : ℕ) (xs : List ℤ) → AllByRecursion (Marked marks) (vertex_at g target).parameters → (e : Entry) → is_event_with target xs (entry_left g marks e) ≡ is_event_with target xs e
 with-left g marks target xs all e = one (e.vertex == target) refl where
   one : (b : Bool) → (e.vertex == target) ≡ b → (b && same_values (carried_left g marks e) xs) ≡ (b && same_values e.values xs)
   one true is = ap (λ ys. same_values ys xs) (all-items_where_marked marks (vertex_at g e.vertex).parameters e.values (subst (λ k. AllByRecursion (Marked marks) (vertex_at g k).parameters) (sym (same-place e.vertex target is)) all))
@@ -123,8 +123,8 @@ module _ (g : EventGraph) (marks live : List Bool) (seed : ℕ) (s t : State) (l
   act-left e CancelEqual (needed, fit) p all =
       bind-alongside (ValuesKept g marks (vertex_at g e.target).parameters) Plans (values-alongside g marks s t left clk (vertex_at g e.target).parameters e.values fit) _ _ (λ xs ys (same, stored).
       let whole : xs ≡ ys = sym (all-items_where_marked marks (vertex_at g e.target).parameters xs needed) ∙ same in
-      subst (λ (ys : List ℤ). Alongside Plans (Ok (record p { pending = without_next (is_with e.target xs) p.pending })) (Ok (record { pending = without_next (is_with e.target ys) (map (entry_left g marks) p.pending); taken = words_left live p.taken }))) whole
-      (both_go (ap (λ (l : List Entry). record { pending = l; taken = words_left live p.taken }) (sym (without_next-mapped (entry_left g marks) (keeps_due g marks) (is_with e.target xs) (is_with e.target xs) p.pending (every-always (λ (x : Entry). is_with e.target xs (entry_left g marks x) ≡ is_with e.target xs x) (with-left g marks e.target xs needed) p.pending))), without_next-every (EntryFits g marks) (is_with e.target xs) p.pending all)))
+      subst (λ (ys : List ℤ). Alongside Plans (Ok (record p { pending = without_next (is_event_with e.target xs) p.pending })) (Ok (record { pending = without_next (is_event_with e.target ys) (map (entry_left g marks) p.pending); taken = words_left live p.taken }))) whole
+      (both_go (ap (λ (l : List Entry). record { pending = l; taken = words_left live p.taken }) (sym (without_next-mapped (entry_left g marks) (keeps_due g marks) (is_event_with e.target xs) (is_event_with e.target xs) p.pending (every-always (λ (x : Entry). is_event_with e.target xs (entry_left g marks x) ≡ is_event_with e.target xs x) (with-left g marks e.target xs needed) p.pending))), without_next-every (EntryFits g marks) (is_event_with e.target xs) p.pending all)))
   act-left e CancelAll fit p all =
       both_go (ap (λ (l : List Entry). record { pending = l; taken = words_left live p.taken }) (sym (without_all-mapped (entry_left g marks) (is_of e.target) (is_of e.target) p.pending (of-left e.target p.pending))), without_all-every (EntryFits g marks) (is_of e.target) p.pending all)
 

@@ -10,9 +10,9 @@ use Rattle.model_core.specs.declared.model.Kind.TheVariants as kinds
 use Rattle.model_core.specs.EventGraph.{EventGraph, EventVertex, EventEdge, EdgeKind, Schedule, Urgent, CancelNext, CancelEqual, CancelAll, StateChange, Set, Draw, Location, Expression}
 use Rattle.model_core.specs.Run.Step.{vertex_at}
 use Rattle.model_core.specs.Text.Canonical.{vertex_name, expression_texts, change_line, priority_text, timing_text, edge_word, edge_line}
-use Rattle.model_core.specs.Text.Spellable.{HasOne, extent, SpellableKind, CarriesAsWritten, SpellableEdge, SpellableParts, kind_openings, edge_openings}
+use Rattle.model_core.specs.Text.Spellable.{IsNonEmpty, extent, SpellableKind, CarriesAsWritten, SpellableEdge, SpellableParts, kind_openings, edge_openings}
 use Rattle.model_core.specs.Static.HasKind.{IsVariable, HasKind}
-use Rattle.model_core.specs.Static.OwnRules.{TakesKind, TakeCarried, KeepsChange, CarriesValues, KeepsTiming, KeepsEdge, parameters_of}
+use Rattle.model_core.specs.Static.OwnRules.{IsLocationOfKind, CarriedFitKinds, KeepsChange, CarriesValues, KeepsTiming, KeepsEdge, parameters_of}
 use Rattle.model_core.specs.Rules.MarkedPlaces.{rank, is_marked}
 use Rattle.model_core.specs.Rules.Slice.{expression_renumbered, location_renumbered, items_where_marked, sliced_values, sliced_parameters, sliced_targets, set_or_nothing, sliced_change, sliced_kind, sliced_edge, sliced_vertex, of_marked_variables}
 use Rattle.mark_laws.proofs.Marks.{Marked}
@@ -29,7 +29,7 @@ use Rattle.model_core.proofs.NotEmpty.{has_one-map}
 use Rattle.var_slicing.proofs.PartsLeft.{all-declared, variable-of_left, kind-of_left, spellable-left, delay-keeps, delay-spellable, delay_text-left, source-keeps, source-spellable, source_text-left, takes-left, location_text-left, location-spellable, location_openings-left, target-texts, targets-spellable, target-openings, value-texts, values-spellable, value-openings, values_openings-left, values-given}
 
 -- a `set` is left, or none where nothing of it stays
-set-cases : (P : List StateChange → Type 0) (R : Location → Kind → Type 0) (S : Expression → Kind → Type 0) (ls : List Location) (es : List Expression) (ks : List Kind) → AllZip R ls ks → AllZip S es ks → P [] → (HasOne ls → HasOne es → P (Set ls es ∷ [])) → P (set_or_nothing ls es)
+set-cases : (P : List StateChange → Type 0) (R : Location → Kind → Type 0) (S : Expression → Kind → Type 0) (ls : List Location) (es : List Expression) (ks : List Kind) → AllZip R ls ks → AllZip S es ks → P [] → (IsNonEmpty ls → IsNonEmpty es → P (Set ls es ∷ [])) → P (set_or_nothing ls es)
 set-cases P R S [] [] ks taken given none one = none
 set-cases P R S [] (e ∷ es) [] taken given none one = absurd given
 set-cases P R S [] (e ∷ es) (k ∷ ks) taken given none one = absurd taken
@@ -64,10 +64,10 @@ module _ (g : EventGraph) (marks live : List Bool) where
   tables = length g.tables
 
   abbrev Takes : Location → Kind → Type 0
-  Takes = TakesKind g.variables tables (parameters_of g)
+  Takes = IsLocationOfKind g.variables tables (parameters_of g)
 
   abbrev TakesLeft : Location → Kind → Type 0
-  TakesLeft = TakesKind h.variables tables (parameters_of h)
+  TakesLeft = IsLocationOfKind h.variables tables (parameters_of h)
 
   abbrev Keeps : StateChange → Type 0
   Keeps = KeepsChange g.variables tables (parameters_of g)
@@ -203,7 +203,7 @@ module _ (g : EventGraph) (marks live : List Bool) where
   pub edge-carries : (e : EventEdge) → KeepsEdge g.variables tables (parameters_of g) e → Carries e.kind e
   edge-carries e k = subst (λ ps. CarriesValues g.variables tables (parameters_of g) e.kind ps e.values) (sym (takes-parameters g.vertices e.target k.parameters k.target)) k.carries
 
-  carried-read : (e : EventEdge) → TakeCarried g.variables tables (parameters_of g) (takes_of e) e.values → CarriedNeed g marks e → ValuesRead marks (takes_of e) e.values
+  carried-read : (e : EventEdge) → CarriedFitKinds g.variables tables (parameters_of g) (takes_of e) e.values → CarriedNeed g marks e → ValuesRead marks (takes_of e) e.values
   carried-read e carried needs = carried-reads g marks IsParameterOf (HasKind g.variables) (takes_of e) e.values carried.kinds carried.taken carried.given needs
 
   nothing-read : (vs : List ℕ) (es : List Expression) → es ≡ [] → ValuesRead marks vs es
@@ -222,7 +222,7 @@ module _ (g : EventGraph) (marks live : List Bool) where
   kind-read e CancelEqual carries needs = carried-read e carries needs.1
   kind-read e CancelAll carries needs = nothing-read (takes_of e) e.values carries
 
-  carried-keeps : (e : EventEdge) → TakeCarried g.variables tables (parameters_of g) (takes_of e) e.values → CarriedNeed g marks e → TakeCarried h.variables tables (parameters_of h) (sliced_parameters marks (takes_of e)) (sliced_values marks (takes_of e) e.values)
+  carried-keeps : (e : EventEdge) → CarriedFitKinds g.variables tables (parameters_of g) (takes_of e) e.values → CarriedNeed g marks e → CarriedFitKinds h.variables tables (parameters_of h) (sliced_parameters marks (takes_of e)) (sliced_values marks (takes_of e) e.values)
   carried-keeps e carried needs = record {
     kinds = items_where_marked marks (takes_of e) carried.kinds;
     taken = parameters-taken (takes_of e) carried.kinds carried.taken;
@@ -258,7 +258,7 @@ module _ (g : EventGraph) (marks live : List Bool) where
   kind-written e (Schedule delay priority) written needs = tt
   kind-written e Urgent written needs = tt
   kind-written e CancelNext written needs = nothing-left (takes_of e) e.values written
-  kind-written e CancelEqual written needs = subst HasOne (ap (map ren) (sym (all-items_where_marked marks (takes_of e) e.values needs.0))) (has_one-map ren e.values written)
+  kind-written e CancelEqual written needs = subst IsNonEmpty (ap (map ren) (sym (all-items_where_marked marks (takes_of e) e.values needs.0))) (has_one-map ren e.values written)
   kind-written e CancelAll written needs = nothing-left (takes_of e) e.values written
 
   kind-spellable : (e : EventEdge) (kind : EdgeKind) → SpellableKind (extent g) kind → KindNeeds g marks e kind → SpellableKind (extent h) (sliced_kind marks kind)

@@ -8,7 +8,7 @@ use Rattle.model_core.specs.EventGraph.{EventGraph, Expression, Number, Location
 use Rattle.model_core.specs.Text.Canonical.{variable_name, expression_text, expression_texts, location_text, choice_text, source_text, delay_text}
 use Rattle.model_core.specs.Text.Spellable.{extent, SpellableExpression, SpellableLocation, SpellableSource, SpellableDelay, expression_openings, openings_together, location_openings, values_openings}
 use Rattle.model_core.specs.Static.HasKind.{IsVariable, HasKind}
-use Rattle.model_core.specs.Static.OwnRules.{TakesKind, KeepsSource, KeepsDelay}
+use Rattle.model_core.specs.Static.OwnRules.{IsLocationOfKind, KeepsSource, KeepsDelay}
 use Rattle.model_core.specs.Rules.MarkedPlaces.{rank}
 use Rattle.model_core.specs.Rules.Uses.{variables_in}
 use Rattle.model_core.specs.Rules.Slice.{expression_renumbered, delay_renumbered, location_renumbered, items_where_marked, sliced_values, sliced_parameters, sliced_targets, of_marked_variables}
@@ -111,11 +111,11 @@ module _ (g : EventGraph) (marks : List Bool) where
   -- ---- locations
 
   module _ (tables : ℕ) (old new : List (List ℕ)) where
-    location-takes : (v : ℕ) → Marked marks v → (i : Option Expression) → IndexReadsMarked marks i → (k : Kind) → TakesKind g.variables tables old (record { variable = v; index = i }) k → TakesKind h.variables tables new (location_renumbered f (record { variable = v; index = i })) k
+    location-takes : (v : ℕ) → Marked marks v → (i : Option Expression) → IndexReadsMarked marks i → (k : Kind) → IsLocationOfKind g.variables tables old (record { variable = v; index = i }) k → IsLocationOfKind h.variables tables new (location_renumbered f (record { variable = v; index = i })) k
     location-takes v marked None reads k takes = variable-of_left v false k marked takes
     location-takes v marked (Some e) reads k takes = (variable-of_left v true k marked takes.0, kind-of_left e kinds.Range reads takes.1)
 
-    pub takes-left : (l : Location) (k : Kind) → TargetMarked marks l → TakesKind g.variables tables old l k → TakesKind h.variables tables new (location_renumbered f l) k
+    pub takes-left : (l : Location) (k : Kind) → TargetMarked marks l → IsLocationOfKind g.variables tables old l k → IsLocationOfKind h.variables tables new (location_renumbered f l) k
     takes-left l k (marked, reads) takes = location-takes l.variable marked l.index reads k takes
 
   pub location_text-left : (l : Location) → TargetMarked marks l → location_text h (location_renumbered f l) ≡ location_text g l

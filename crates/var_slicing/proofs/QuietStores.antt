@@ -9,7 +9,7 @@ use Rattle.model_core.specs.Run.Value.{each, in_turn, value_of, place_of}
 use Rattle.model_core.specs.Run.Changes.{ChangeState, kept, store, set_all, make_change}
 use Rattle.model_core.specs.Run.Step.{no_vertex, vertex_at}
 use Rattle.model_core.specs.Static.HasKind.{IsVariable, HasKind}
-use Rattle.model_core.specs.Static.OwnRules.{TakesKind, TakeCarried, KeepsChange, CarriesValues, KeepsEdge, KeepsVertex, parameters_of, KeepsParts}
+use Rattle.model_core.specs.Static.OwnRules.{IsLocationOfKind, CarriedFitKinds, KeepsChange, CarriesValues, KeepsEdge, KeepsVertex, parameters_of, KeepsParts}
 use Rattle.model_core.specs.Rules.BoundsOfParts.{quiet_set, quiet_change}
 use Rattle.model_core.specs.Rules.MarkedPlaces.{is_marked}
 use Rattle.model_core.specs.Rules.Uses.{delay_streams}
@@ -41,7 +41,7 @@ and_true false e = e
 
 module _ (g : EventGraph) (quiet : QuietChanges g) (s : State) (inside : IsTrue (in_range g s)) (clk : ℕ) (early : clk ≤ 2 ^ 48) where
   abbrev Takes : Location → Kind → Type 0
-  Takes = TakesKind g.variables (length g.tables) (parameters_of g)
+  Takes = IsLocationOfKind g.variables (length g.tables) (parameters_of g)
 
   stores_quietly : (l : Location) (e : Expression) (k : Kind) → Takes l k → HasKind g.variables e k → quiet_set g l e ≡ true → StoresQuietly g s clk l e
   stores_quietly l e k takes has quietly =
@@ -87,7 +87,7 @@ module _ (g : EventGraph) (quiet : QuietChanges g) (s : State) (inside : IsTrue 
         let (reads, quietly) = needs.0 in
         ((λ marked. (reads marked).1), (λ unmarked. (stores_quietly (scalar_location v) e k taken.0 given.0 (quietly unmarked)).has_value), carried-fits vs es ks taken.1 given.1 needs.1)
 
-    fits-carried : (e : EventEdge) → TakeCarried g.variables (length g.tables) (parameters_of g) (vertex_at g e.target).parameters e.values → CarriedNeed g marks e → ValuesFit g marks s clk (vertex_at g e.target).parameters e.values
+    fits-carried : (e : EventEdge) → CarriedFitKinds g.variables (length g.tables) (parameters_of g) (vertex_at g e.target).parameters e.values → CarriedNeed g marks e → ValuesFit g marks s clk (vertex_at g e.target).parameters e.values
     fits-carried e carried needs = carried-fits (vertex_at g e.target).parameters e.values carried.kinds carried.taken carried.given needs
 
     kind-fits : (live : List Bool) (e : EventEdge) (kind : EdgeKind) → AllByRecursion (Marked live) (option_map_or delay_streams (delay_given kind) []) → CarriesValues g.variables (length g.tables) (parameters_of g) kind (vertex_at g e.target).parameters e.values → KindNeeds g marks e kind → KindFits g marks live s clk e kind

@@ -22,7 +22,8 @@ fn add_stream(streams: &mut Vec<usize>, stream: usize) -> Result<(), NoMemory>
 
 /// Adds the stream of an edge's delay, where it is drawn.
 pub(crate) fn add_delay_stream(streams: &mut Vec<usize>, edge: &Edge) -> Result<(), NoMemory>
-    ensures { OnOk result (streams.new.items ≡ with_streams streams.old.items (edge_streams (edge_of edge.now))) }
+    ensures { OnOk result
+        (streams.new.items ≡ with_streams streams.old.items (edge_streams (edge_of edge.now))) }
 {
     match &edge.form {
         EdgeForm::Schedule { delay, priority: _ } => match delay {

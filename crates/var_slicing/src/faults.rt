@@ -22,7 +22,11 @@ fn add_faulting_target(
     target: &Target,
     value: &Expr,
 ) -> Result<(), NoMemory>
-    ensures { OnOk result (out.new.items ≡ out.old.items ++ fault_unless marks.now target.now.var (quiet_set (graph_of model.now) (location_of target.now) (expression_of value.now))) }
+    ensures { OnOk result
+        (out.new.items
+        ≡ out.old.items
+        ++ fault_unless marks.now target.now.var
+        (quiet_set (graph_of model.now) (location_of target.now) (expression_of value.now))) }
 {
     if is_marked(marks, target.var) {
         return Ok(());
@@ -41,7 +45,12 @@ fn add_faulting_targets(
     targets: &[Target],
     values: &[Expr],
 ) -> Result<(), NoMemory>
-    ensures { OnOk result (out.new.items ≡ out.old.items ++ flat_map (λ ((l, e) : Location × Expression). fault_unless marks.now l.variable (quiet_set (graph_of model.now) l e)) (zip (map location_of targets.now) (map expression_of values.now))) }
+    ensures { OnOk result
+        (out.new.items
+        ≡ out.old.items
+        ++ flat_map (λ ((l, e) : Location × Expression). fault_unless marks.now l.variable
+        (quiet_set (graph_of model.now) l e))
+        (zip (map location_of targets.now) (map expression_of values.now))) }
 {
     for (target, value) in targets.iter().zip(values) {
         add_faulting_target(out, marks, model, target, value)?;
@@ -56,7 +65,9 @@ fn add_faulting_change(
     model: &Model,
     change: &Change,
 ) -> Result<(), NoMemory>
-    ensures { OnOk result (out.new.items ≡ out.old.items ++ faults_in_change marks.now (graph_of model.now) (change_of change.now)) }
+    ensures { OnOk result
+        (out.new.items
+        ≡ out.old.items ++ faults_in_change marks.now (graph_of model.now) (change_of change.now)) }
 {
     match change {
         Change::Set { targets, values } => {
@@ -83,7 +94,10 @@ fn add_faulting_changes(
     model: &Model,
     changes: &[Change],
 ) -> Result<(), NoMemory>
-    ensures { OnOk result (out.new.items ≡ added_each (faults_in_change marks.now (graph_of model.now)) (map change_of changes.now) out.old.items) }
+    ensures { OnOk result
+        (out.new.items
+        ≡ added_each (faults_in_change marks.now (graph_of model.now))
+        (map change_of changes.now) out.old.items) }
 {
     for change in changes {
         add_faulting_change(out, marks, model, change)?;
@@ -99,7 +113,11 @@ fn add_faulting_value(
     param: usize,
     value: &Expr,
 ) -> Result<(), NoMemory>
-    ensures { OnOk result (out.new.items ≡ out.old.items ++ fault_unless marks.now param (quiet_set (graph_of model.now) (scalar_location param) (expression_of value.now))) }
+    ensures { OnOk result
+        (out.new.items
+        ≡ out.old.items
+        ++ fault_unless marks.now param
+        (quiet_set (graph_of model.now) (scalar_location param) (expression_of value.now))) }
 {
     if is_marked(marks, param) {
         return Ok(());
@@ -119,7 +137,12 @@ fn add_faulting_values(
     params: &[usize],
     values: &[Expr],
 ) -> Result<(), NoMemory>
-    ensures { OnOk result (out.new.items ≡ out.old.items ++ flat_map (λ ((v, x) : ℕ × Expression). fault_unless marks.now v (quiet_set (graph_of model.now) (scalar_location v) x)) (zip params.now (map expression_of values.now))) }
+    ensures { OnOk result
+        (out.new.items
+        ≡ out.old.items
+        ++ flat_map (λ ((v, x) : ℕ × Expression). fault_unless marks.now v
+        (quiet_set (graph_of model.now) (scalar_location v) x))
+        (zip params.now (map expression_of values.now))) }
 {
     for (param, value) in params.iter().zip(values) {
         add_faulting_value(out, marks, model, *param, value)?;
@@ -134,7 +157,9 @@ fn add_faulting_carried(
     model: &Model,
     edge: &Edge,
 ) -> Result<(), NoMemory>
-    ensures { OnOk result (out.new.items ≡ out.old.items ++ faults_in_edge marks.now (graph_of model.now) (edge_of edge.now)) }
+    ensures { OnOk result
+        (out.new.items
+        ≡ out.old.items ++ faults_in_edge marks.now (graph_of model.now) (edge_of edge.now)) }
 {
     if edge.form.is_scheduling() {
         add_faulting_values(
@@ -156,7 +181,10 @@ fn add_all_faulting_carried(
     model: &Model,
     edges: &[Edge],
 ) -> Result<(), NoMemory>
-    ensures { OnOk result (out.new.items ≡ added_each (faults_in_edge marks.now (graph_of model.now)) (map edge_of edges.now) out.old.items) }
+    ensures { OnOk result
+        (out.new.items
+        ≡ added_each (faults_in_edge marks.now (graph_of model.now))
+        (map edge_of edges.now) out.old.items) }
 {
     for edge in edges {
         add_faulting_carried(out, marks, model, edge)?;
@@ -172,7 +200,9 @@ pub(crate) fn add_faulting(
     model: &Model,
     vertices: &[Vertex],
 ) -> Result<(), NoMemory>
-    ensures { OnOk result (out.new.items ≡ with_faults marks.now (graph_of model.now) (map vertex_of vertices.now) out.old.items) }
+    ensures { OnOk result
+        (out.new.items
+        ≡ with_faults marks.now (graph_of model.now) (map vertex_of vertices.now) out.old.items) }
 {
     for vertex in vertices {
         add_faulting_changes(out, marks, model, vertex.changes.as_slice())?;

@@ -30,7 +30,8 @@ pub fn slicing_keeps_the_meaning()
 
 /// The variables that passes mark are exactly those that are needed.
 pub fn marks_are_of_needed_variables()
-    ensures { (g : EventGraph) (variable : ℕ) → (is_marked (needed_marks g) variable ≡ true) ↔ Needed g variable }
+    ensures { (g : EventGraph) (variable : ℕ)
+        → (is_marked (needed_marks g) variable ≡ true) ↔ Needed g variable }
 {}
 
 /// A slice leaves the edges that can be pruned or settled as they were: it takes nothing away that their conditions read,

@@ -40,7 +40,8 @@ fn slice_params(staying: &Staying, params: &mut Vec<usize>)
 
 /// Takes out the values beside variables that go.
 fn slice_values<V: HasVars>(staying: &Staying, beside: &V, values: &mut Vec<Expr>)
-    ensures { map expression_of values.new.items ≡ sliced_values staying.now (V.vars beside.now) (map expression_of values.old.items) }
+    ensures { map expression_of values.new.items
+        ≡ sliced_values staying.now (V.vars beside.now) (map expression_of values.old.items) }
 {
     let mut kept = 0;
     for place in 0..values.len() {
@@ -53,7 +54,8 @@ fn slice_values<V: HasVars>(staying: &Staying, beside: &V, values: &mut Vec<Expr
 /// Gives a target its new numbers, and says whether its variable stays.
 fn renumber_kept_target(staying: &Staying, target: &mut Target) -> bool
     ensures stays { result ≡ is_marked staying.now target.old.var }
-    ensures renumbered { location_of target.new ≡ location_renumbered (rank staying.now) (location_of target.old) }
+    ensures renumbered { location_of target.new
+        ≡ location_renumbered (rank staying.now) (location_of target.old) }
 {
     let stays = staying.keeps(target.var);
     renumber_target(staying, target);
@@ -62,7 +64,8 @@ fn renumber_kept_target(staying: &Staying, target: &mut Target) -> bool
 
 /// Takes the targets out whose variables go.
 fn slice_targets(staying: &Staying, targets: &mut Vec<Target>)
-    ensures { map location_of targets.new.items ≡ sliced_targets staying.now (map location_of targets.old.items) }
+    ensures { map location_of targets.new.items
+        ≡ sliced_targets staying.now (map location_of targets.old.items) }
 {
     let mut kept = 0;
     for place in 0..targets.len() {
@@ -74,7 +77,8 @@ fn slice_targets(staying: &Staying, targets: &mut Vec<Target>)
 
 /// Takes out of a change what is stored in variables that go, and says whether anything is left.
 fn slice_change(staying: &Staying, change: &mut Change) -> bool
-    ensures { cond result (change_of change.new ∷ []) [] ≡ sliced_change staying.now (change_of change.old) }
+    ensures { cond result (change_of change.new ∷ []) []
+        ≡ sliced_change staying.now (change_of change.old) }
 {
     match change {
         Change::Set { targets, values } => {
@@ -92,7 +96,8 @@ fn slice_change(staying: &Staying, change: &mut Change) -> bool
 
 /// Takes out of changes what is stored in variables that go.
 fn slice_changes(staying: &Staying, changes: &mut Vec<Change>)
-    ensures { map change_of changes.new.items ≡ flat_map (sliced_change staying.now) (map change_of changes.old.items) }
+    ensures { map change_of changes.new.items
+        ≡ flat_map (sliced_change staying.now) (map change_of changes.old.items) }
 {
     let mut kept = 0;
     for place in 0..changes.len() {
@@ -110,7 +115,10 @@ fn slice_carried_values(
     target: usize,
     values: &mut Vec<Expr>,
 )
-    ensures { map expression_of values.new.items ≡ sliced_values staying.now (slice_index_or (map (λ (v : Vertex). v.params) vertices.now) target []) (map expression_of values.old.items) }
+    ensures { map expression_of values.new.items
+        ≡ sliced_values staying.now
+        (slice_index_or (map (λ (v : Vertex). v.params) vertices.now) target [])
+        (map expression_of values.old.items) }
 {
     match vertices.get(target) {
         Some(vertex) => slice_values(staying, &vertex.params, values),
@@ -120,7 +128,9 @@ fn slice_carried_values(
 
 /// Takes out of an edge to one of these vertices the values that it carries for parameters that go.
 fn slice_edge(alloc: Global, staying: &Staying, vertices: &[Vertex], edge: &mut Edge)
-    ensures { edge_of edge.new ≡ edge_left_in (map (λ (v : Vertex). v.params) vertices.now) staying.now (edge_of edge.old) }
+    ensures { edge_of edge.new
+        ≡ edge_left_in (map (λ (v : Vertex). v.params) vertices.now) staying.now
+        (edge_of edge.old) }
 {
     slice_carried_values(
         alloc,
@@ -135,7 +145,9 @@ fn slice_edge(alloc: Global, staying: &Staying, vertices: &[Vertex], edge: &mut 
 
 /// Takes out of edges to these vertices the values that they carry for parameters that go.
 fn slice_edges(alloc: Global, staying: &Staying, vertices: &[Vertex], edges: &mut Vec<Edge>)
-    ensures { map edge_of edges.new.items ≡ map (edge_left_in (map (λ (v : Vertex). v.params) vertices.now) staying.now) (map edge_of edges.old.items) }
+    ensures { map edge_of edges.new.items
+        ≡ map (edge_left_in (map (λ (v : Vertex). v.params) vertices.now) staying.now)
+        (map edge_of edges.old.items) }
 {
     for edge in edges.iter_mut() {
         slice_edge(alloc, staying, vertices, edge);
@@ -144,7 +156,9 @@ fn slice_edges(alloc: Global, staying: &Staying, vertices: &[Vertex], edges: &mu
 
 /// Takes out of all edges the values that they carry for parameters that go. The parameters stay as they are.
 fn slice_all_edges(alloc: Global, staying: &Staying, vertices: &mut Vec<Vertex>)
-    ensures { map vertex_of vertices.new.items ≡ map (edges_left_in (map (λ (v : Vertex). v.params) vertices.old.items) staying.now) (map vertex_of vertices.old.items) }
+    ensures { map vertex_of vertices.new.items
+        ≡ map (edges_left_in (map (λ (v : Vertex). v.params) vertices.old.items) staying.now)
+        (map vertex_of vertices.old.items) }
 {
     for place in 0..vertices.len() {
         let mut edges = mem::replace(&mut vertices[place].edges, List::new(alloc)).into_vec();
@@ -155,7 +169,8 @@ fn slice_all_edges(alloc: Global, staying: &Staying, vertices: &mut Vec<Vertex>)
 
 /// Takes out of vertices the parameters that go, and out of their changes what is stored in variables that go.
 fn slice_all_stores(staying: &Staying, vertices: &mut Vec<Vertex>)
-    ensures { map vertex_of vertices.new.items ≡ map (own_parts_left staying.now) (map vertex_of vertices.old.items) }
+    ensures { map vertex_of vertices.new.items
+        ≡ map (own_parts_left staying.now) (map vertex_of vertices.old.items) }
 {
     for vertex in vertices.iter_mut() {
         slice_params(staying, vertex.params.as_mut_vec());

@@ -43,7 +43,9 @@ fn marked_with_faults(
     first: &mut Vec<usize>,
     next: &Links,
 ) -> Result<Vec<bool>, NoMemory>
-    ensures { IfOk result (λ marks. marks.items ≡ marked_with_faults (graph_of model.now) next.now.lists.items first.old.items) }
+    ensures { IfOk result
+        (λ marks. marks.items
+        ≡ marked_with_faults (graph_of model.now) next.now.lists.items first.old.items) }
 {
     let marks = entailed(alloc, first.as_slice(), next)?;
     if !marks.as_slice().contains(&false) {

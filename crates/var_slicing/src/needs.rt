@@ -27,7 +27,8 @@ pub(crate) struct Needs {
 
 /// Adds the variables of a watch list.
 pub(crate) fn add_watched(out: &mut Vec<usize>, watch: &[Watch]) -> Result<(), NoMemory>
-    ensures { OnOk result (out.new.items ≡ out.old.items ++ watched_variables (map watched_of watch.now)) }
+    ensures { OnOk result
+        (out.new.items ≡ out.old.items ++ watched_variables (map watched_of watch.now)) }
 {
     for watched in watch {
         if let Watch::Variable { var } = *watched {
@@ -55,7 +56,9 @@ fn compares_values(form: &EdgeForm) -> bool
 
 /// Adds the parameters with which an edge compares its values.
 fn add_compared(out: &mut Vec<usize>, model: &Model, edge: &Edge) -> Result<(), NoMemory>
-    ensures { OnOk result (out.new.items ≡ out.old.items ++ compared_parameters (graph_of model.now) (edge_of edge.now)) }
+    ensures { OnOk result
+        (out.new.items
+        ≡ out.old.items ++ compared_parameters (graph_of model.now) (edge_of edge.now)) }
 {
     if compares_values(&edge.form) {
         add_places(out, model.parameters_at(edge.target))
@@ -71,7 +74,10 @@ fn add_carried(
     model: &Model,
     edges: &[Edge],
 ) -> Result<(), NoMemory>
-    ensures { OnOk result (pairs.new.items ≡ added_each (edge_pairs known.now (graph_of model.now)) (map edge_of edges.now) pairs.old.items) }
+    ensures { OnOk result
+        (pairs.new.items
+        ≡ added_each (edge_pairs known.now (graph_of model.now))
+        (map edge_of edges.now) pairs.old.items) }
 {
     for edge in edges {
         add_values_beside(
@@ -91,7 +97,10 @@ fn add_all_carried(
     model: &Model,
     vertices: &[Vertex],
 ) -> Result<(), NoMemory>
-    ensures { OnOk result (pairs.new.items ≡ with_value_pairs known.now (graph_of model.now) (map vertex_of vertices.now) pairs.old.items) }
+    ensures { OnOk result
+        (pairs.new.items
+        ≡ with_value_pairs known.now (graph_of model.now)
+        (map vertex_of vertices.now) pairs.old.items) }
 {
     for vertex in vertices {
         add_carried(pairs, known, model, vertex.edges.as_slice())?;
@@ -114,7 +123,9 @@ impl Needs {
 
     /// Adds what an edge compares, and what its condition and its delay read.
     fn add_edge(&mut self, model: &Model, edge: &Edge) -> Result<(), NoMemory>
-        ensures { OnOk result (collected_of self.new ≡ with_edge (graph_of model.now) (edge_of edge.now) (collected_of self.old)) }
+        ensures { OnOk result
+            (collected_of self.new
+            ≡ with_edge (graph_of model.now) (edge_of edge.now) (collected_of self.old)) }
     {
         add_compared(&mut self.first, model, edge)?;
         add_deciding_reads(&mut self.first, edge)?;
@@ -123,7 +134,9 @@ impl Needs {
 
     /// Adds what edges compare, and what their conditions and delays read.
     fn add_edges(&mut self, model: &Model, edges: &[Edge]) -> Result<(), NoMemory>
-        ensures { OnOk result (collected_of self.new ≡ with_edges (graph_of model.now) (map edge_of edges.now) (collected_of self.old)) }
+        ensures { OnOk result
+            (collected_of self.new
+            ≡ with_edges (graph_of model.now) (map edge_of edges.now) (collected_of self.old)) }
     {
         for edge in edges {
             self.add_edge(model, edge)?;
@@ -133,7 +146,10 @@ impl Needs {
 
     /// Adds what the edges of vertices compare, and what their conditions and delays read.
     fn add_all_edges(&mut self, model: &Model, vertices: &[Vertex]) -> Result<(), NoMemory>
-        ensures { OnOk result (collected_of self.new ≡ with_all_edges (graph_of model.now) (map vertex_of vertices.now) (collected_of self.old)) }
+        ensures { OnOk result
+            (collected_of self.new
+            ≡ with_all_edges (graph_of model.now) (map vertex_of vertices.now)
+            (collected_of self.old)) }
     {
         for vertex in vertices {
             self.add_edges(model, vertex.edges.as_slice())?;
@@ -154,7 +170,9 @@ impl Needs {
 
     /// Adds what the targets of a change need, and from which stream it draws.
     fn add_change(&mut self, known: &[bool], change: &Change) -> Result<(), NoMemory>
-        ensures { OnOk result (collected_of self.new ≡ with_change known.now (change_of change.now) (collected_of self.old)) }
+        ensures { OnOk result
+            (collected_of self.new
+            ≡ with_change known.now (change_of change.now) (collected_of self.old)) }
     {
         match change {
             Change::Set { targets, values } => add_targets_beside(
@@ -177,7 +195,9 @@ impl Needs {
 
     /// Adds what the targets of changes need, and from which streams they draw.
     fn add_changes(&mut self, known: &[bool], changes: &[Change]) -> Result<(), NoMemory>
-        ensures { OnOk result (collected_of self.new ≡ with_changes known.now (map change_of changes.now) (collected_of self.old)) }
+        ensures { OnOk result
+            (collected_of self.new
+            ≡ with_changes known.now (map change_of changes.now) (collected_of self.old)) }
     {
         for change in changes {
             self.add_change(known, change)?;
@@ -187,7 +207,9 @@ impl Needs {
 
     /// Adds what the targets of all changes of vertices need, and from which streams they draw.
     fn add_all_changes(&mut self, known: &[bool], vertices: &[Vertex]) -> Result<(), NoMemory>
-        ensures { OnOk result (collected_of self.new ≡ with_all_changes known.now (map vertex_of vertices.now) (collected_of self.old)) }
+        ensures { OnOk result
+            (collected_of self.new
+            ≡ with_all_changes known.now (map vertex_of vertices.now) (collected_of self.old)) }
     {
         for vertex in vertices {
             self.add_changes(known, vertex.changes.as_slice())?;
@@ -197,7 +219,9 @@ impl Needs {
 
     /// Adds all pairs that lead to variables which aren't marked, and what is drawn from a stream of a delay.
     pub(crate) fn add_parts(&mut self, model: &Model, known: &[bool]) -> Result<(), NoMemory>
-        ensures { OnOk result (collected_of self.new ≡ with_drawn (with_all_pairs known.now (graph_of model.now) (collected_of self.old))) }
+        ensures { OnOk result
+            (collected_of self.new
+            ≡ with_drawn (with_all_pairs known.now (graph_of model.now) (collected_of self.old))) }
     {
         self.add_all_changes(known, model.vertices.as_slice())?;
         add_all_carried(&mut self.pairs, known, model, model.vertices.as_slice())?;

@@ -11,7 +11,8 @@ use model_core::{Delay, EdgeForm, Expr, Target, Watch};
 
 /// Gives the variables of an expression their new numbers.
 pub(crate) fn renumber_expr(staying: &Staying, expr: &mut Expr)
-    ensures { expression_of expr.new ≡ expression_renumbered (rank staying.now) (expression_of expr.old) }
+    ensures { expression_of expr.new
+        ≡ expression_renumbered (rank staying.now) (expression_of expr.old) }
 {
     match expr {
         Expr::Int(_) | Expr::Truth(_) | Expr::Clk => {}
@@ -36,7 +37,9 @@ pub(crate) fn renumber_expr(staying: &Staying, expr: &mut Expr)
 
 /// Gives the variables of an index, where there is one, their new numbers.
 fn renumber_index(staying: &Staying, index: &mut Option<Expr>)
-    ensures { option_map expression_of index.new ≡ option_map (expression_renumbered (rank staying.now)) (option_map expression_of index.old) }
+    ensures { option_map expression_of index.new
+        ≡ option_map (expression_renumbered (rank staying.now))
+        (option_map expression_of index.old) }
 {
     if let Some(index) = index {
         renumber_expr(staying, index);
@@ -45,7 +48,8 @@ fn renumber_index(staying: &Staying, index: &mut Option<Expr>)
 
 /// Gives a target and the variables of its index their new numbers.
 pub(crate) fn renumber_target(staying: &Staying, target: &mut Target)
-    ensures { location_of target.new ≡ location_renumbered (rank staying.now) (location_of target.old) }
+    ensures { location_of target.new
+        ≡ location_renumbered (rank staying.now) (location_of target.old) }
 {
     target.var = staying.number(target.var);
     renumber_index(staying, &mut target.index);
@@ -53,7 +57,8 @@ pub(crate) fn renumber_target(staying: &Staying, target: &mut Target)
 
 /// Gives the variables of a delay their new numbers.
 fn renumber_delay(staying: &Staying, delay: &mut Delay)
-    ensures { edge_delay_of delay.new ≡ delay_renumbered (rank staying.now) (edge_delay_of delay.old) }
+    ensures { edge_delay_of delay.new
+        ≡ delay_renumbered (rank staying.now) (edge_delay_of delay.old) }
 {
     match delay {
         Delay::Fixed(expr) => renumber_expr(staying, expr),
@@ -88,7 +93,8 @@ fn item_left(staying: &Staying, watched: Watch) -> Watch
 
 /// Gives the watched variables their new numbers.
 pub(crate) fn renumber_watched_vars(staying: &Staying, watch: &mut Vec<Watch>)
-    ensures { map watched_of watch.new.items ≡ map (sliced_watched staying.now) (map watched_of watch.old.items) }
+    ensures { map watched_of watch.new.items
+        ≡ map (sliced_watched staying.now) (map watched_of watch.old.items) }
 {
     for watched in watch.iter_mut() {
         *watched = item_left(staying, *watched);

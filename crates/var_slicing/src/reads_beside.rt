@@ -34,7 +34,9 @@ fn add_reads_beside(
     var: usize,
     expr: &Expr,
 ) -> Result<(), NoMemory>
-    ensures { OnOk result (pairs.new.items ≡ with_reads known.now var pairs.old.items (variables_in (expression_of expr.now))) }
+    ensures { OnOk result
+        (pairs.new.items
+        ≡ with_reads known.now var pairs.old.items (variables_in (expression_of expr.now))) }
 {
     match expr {
         Expr::Int(_) | Expr::Truth(_) | Expr::Clk => {}
@@ -63,7 +65,10 @@ pub(crate) fn add_index_beside(
     known: &[bool],
     target: &Target,
 ) -> Result<(), NoMemory>
-    ensures { OnOk result (pairs.new.items ≡ with_reads known.now target.now.var pairs.old.items (location_reads (location_of target.now))) }
+    ensures { OnOk result
+        (pairs.new.items
+        ≡ with_reads known.now target.now.var pairs.old.items
+        (location_reads (location_of target.now))) }
 {
     match &target.index {
         None => Ok(()),
@@ -78,7 +83,10 @@ fn add_target_beside(
     target: &Target,
     value: &Expr,
 ) -> Result<(), NoMemory>
-    ensures { OnOk result (pairs.new.items ≡ pairs.old.items ++ target_pairs known.now (location_of target.now) (expression_of value.now)) }
+    ensures { OnOk result
+        (pairs.new.items
+        ≡ pairs.old.items
+        ++ target_pairs known.now (location_of target.now) (expression_of value.now)) }
 {
     add_index_beside(pairs, known, target)?;
     add_reads_beside(pairs, known, target.var, value)
@@ -91,7 +99,11 @@ pub(crate) fn add_targets_beside(
     targets: &[Target],
     values: &[Expr],
 ) -> Result<(), NoMemory>
-    ensures { OnOk result (pairs.new.items ≡ pairs.old.items ++ flat_map (λ ((l, e) : Location × Expression). target_pairs known.now l e) (zip (map location_of targets.now) (map expression_of values.now))) }
+    ensures { OnOk result
+        (pairs.new.items
+        ≡ pairs.old.items
+        ++ flat_map (λ ((l, e) : Location × Expression). target_pairs known.now l e)
+        (zip (map location_of targets.now) (map expression_of values.now))) }
 {
     for (target, value) in targets.iter().zip(values) {
         add_target_beside(pairs, known, target, value)?;
@@ -106,7 +118,11 @@ pub(crate) fn add_values_beside(
     params: &[usize],
     values: &[Expr],
 ) -> Result<(), NoMemory>
-    ensures { OnOk result (pairs.new.items ≡ pairs.old.items ++ flat_map (λ ((v, x) : ℕ × Expression). value_pairs known.now v x) (zip params.now (map expression_of values.now))) }
+    ensures { OnOk result
+        (pairs.new.items
+        ≡ pairs.old.items
+        ++ flat_map (λ ((v, x) : ℕ × Expression). value_pairs known.now v x)
+        (zip params.now (map expression_of values.now))) }
 {
     for (param, value) in params.iter().zip(values) {
         add_reads_beside(pairs, known, *param, value)?;

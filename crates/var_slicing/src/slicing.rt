@@ -2,7 +2,7 @@
 
 ghost use Rattle.std.specs.Prelude.{◌≡◌, None, OnOk, OnErr, IfErr};
 ghost use Rattle.model_core.specs.Rules.Conditions.{first_failed};
-ghost use Rattle.model_core.specs.Rules.ConditionTold.{NamesCondition};
+ghost use Rattle.model_core.specs.Rules.RefusedCondition.{NamesCondition};
 ghost use Rattle.model_core.specs.Rules.Slice.{slice_conditions, sliced};
 ghost use Rattle.model_core.specs.Code.Views.{graph_of};
 
@@ -16,9 +16,11 @@ use std::alloc::Global;
 /// Takes variables away: exactly those that aren't needed, and one at least, by their places in the order of declaration.
 /// What is stored in them goes with them, and those that stay are numbered anew.
 pub fn slice(alloc: Global, model: &mut Model, vars: &List<usize>) -> Result<(), RuleError>
-    ensures done { OnOk result ((first_failed (slice_conditions (graph_of model.old) vars.now) ≡ None)
+    ensures done { OnOk result
+        ((first_failed (slice_conditions (graph_of model.old) vars.now) ≡ None)
         × (graph_of model.new ≡ sliced (graph_of model.old) vars.now)) }
-    ensures refused { IfErr result (λ e. NamesCondition e (first_failed (slice_conditions (graph_of model.old) vars.now))) }
+    ensures refused { IfErr result
+        (λ e. NamesCondition e (first_failed (slice_conditions (graph_of model.old) vars.now))) }
     ensures unchanged { OnErr result (graph_of model.new ≡ graph_of model.old) }
 {
     if vars.len() == 0 {

@@ -61,7 +61,8 @@ fn add_leader_pair(
     stream: usize,
     var: usize,
 ) -> Result<(), NoMemory>
-    ensures { OnOk result (pairs.new.items ≡ pairs.old.items ++ leader_pairs leaders.now (stream, var)) }
+    ensures { OnOk result
+        (pairs.new.items ≡ pairs.old.items ++ leader_pairs leaders.now (stream, var)) }
 {
     match leader(leaders, stream) {
         Some(first) => {
@@ -79,7 +80,8 @@ fn add_leader_pairs(
     leaders: &[StreamDraw],
     draws: &[StreamDraw],
 ) -> Result<(), NoMemory>
-    ensures { OnOk result (pairs.new.items ≡ pairs.old.items ++ flat_map (leader_pairs leaders.now) draws.now) }
+    ensures { OnOk result
+        (pairs.new.items ≡ pairs.old.items ++ flat_map (leader_pairs leaders.now) draws.now) }
 {
     for draw in draws {
         let (stream, var) = *draw;
@@ -96,7 +98,9 @@ pub(crate) fn add_stream_pairs(
     draws: &[StreamDraw],
     count: usize,
 ) -> Result<(), NoMemory>
-    ensures { OnOk result (pairs.new.items ≡ pairs.old.items ++ flat_map (leader_pairs (leaders_of count draws.now)) draws.now) }
+    ensures { OnOk result
+        (pairs.new.items
+        ≡ pairs.old.items ++ flat_map (leader_pairs (leaders_of count draws.now)) draws.now) }
 {
     let leaders = leaders_of(alloc, draws, count)?;
     add_leader_pairs(pairs, leaders.as_slice(), draws)

@@ -45,7 +45,9 @@ impl<'m> Model for LastNotes<'m> {
       noted = cond t.noted (Some (cut_up (watched_sizes (graph_of t.model.now) (map watched_of t.model.now.watch)) t.values.items)) None;
     } };
 
-    ghost invariant = { λ t. length t.values.items ≡ sum_by (watched_size (graph_of t.model.now)) (map watched_of t.model.now.watch) };
+    ghost invariant = { λ t.
+        length t.values.items
+        ≡ sum_by (watched_size (graph_of t.model.now)) (map watched_of t.model.now.watch) };
 }
 
 /// The place of a vertex in a watch list.
@@ -79,7 +81,8 @@ impl<'m> LastNotes<'m> {
 
     /// Nothing is noted yet. All memory is taken here.
     pub fn begin(alloc: Global, model: &'m Graph) -> Result<LastNotes<'m>, NoMemory>
-        ensures { IfOk result (λ last_notes. last_notes ≡ record { model = model.now; noted = None }) }
+        ensures { IfOk result
+            (λ last_notes. last_notes ≡ record { model = model.now; noted = None }) }
     {
         Ok(LastNotes {
             model,
@@ -98,7 +101,9 @@ impl<'m> LastNotes<'m> {
     /// Whether the watched values of a state aren't those noted last.
     fn is_new(&self, state: &State) -> bool
         requires { IsTrue (in_range (graph_of self.now.model) state.now) }
-        ensures { result ≡ is_new (watched_values (map watched_of self.now.model.watch) state.now) self.now.noted }
+        ensures { result
+            ≡ is_new (watched_values
+            (map watched_of self.now.model.watch) state.now) self.now.noted }
     {
         !self.noted || !are_same(self.model.watch.as_slice(), self.values.as_slice(), state)
     }
@@ -106,8 +111,14 @@ impl<'m> LastNotes<'m> {
     /// Notes the watched values of a state, and gives whether they aren't those noted last.
     pub fn note(&mut self, state: &State) -> bool
         requires { IsTrue (in_range (graph_of self.old.model) state.now) }
-        ensures noted { self.new ≡ record self.old { noted = Some (watched_values (map watched_of self.old.model.watch) state.now) } }
-        ensures new { result ≡ is_new (watched_values (map watched_of self.old.model.watch) state.now) self.old.noted }
+        ensures noted { self.new
+            ≡ record self.old {
+              noted = Some
+                  (watched_values (map watched_of self.old.model.watch) state.now);
+            } }
+        ensures new { result
+            ≡ is_new (watched_values
+            (map watched_of self.old.model.watch) state.now) self.old.noted }
     {
         let first = !self.noted;
         let new = take_values(
@@ -131,8 +142,14 @@ impl<'m> LastNotes<'m> {
 
     /// Takes values as those of the last `at` note.
     pub fn note_values(&mut self, values: &[i64])
-        requires { length values.now ≡ sum (watched_sizes (graph_of self.old.model) (map watched_of self.old.model.watch)) }
-        ensures { self.new ≡ record self.old { noted = Some (cut_up (watched_sizes (graph_of self.old.model) (map watched_of self.old.model.watch)) values.now) } }
+        requires { length values.now
+            ≡ sum (watched_sizes (graph_of self.old.model) (map watched_of self.old.model.watch)) }
+        ensures { self.new
+            ≡ record self.old {
+              noted = Some
+                  (cut_up (watched_sizes (graph_of self.old.model)
+                  (map watched_of self.old.model.watch)) values.now);
+            } }
     {
         put_values(&mut self.values, values);
         self.noted = true;
@@ -143,7 +160,8 @@ impl<'m> LastNotes<'m> {
         requires one_model { self.now.model ≡ run.now.model }
         requires told { next ≡ next_shown run.now None }
         ensures { result ≡ (leaves_time run.now.now.clock until (next_entry run.now.now.pending)
-            && is_new (watched_values (map watched_of self.now.model.watch) run.now.now.state) self.now.noted) }
+            && is_new (watched_values
+            (map watched_of self.now.model.watch) run.now.now.state) self.now.noted) }
     {
         leaves_time(run, next, until) && self.is_new(run.state())
     }
@@ -151,8 +169,14 @@ impl<'m> LastNotes<'m> {
     /// Takes the run's watched values as those of the last `at` note, and gives whether they aren't those noted last.
     pub fn remember<P: Pending>(&mut self, run: &Run<'m, P>) -> bool
         requires one_model { self.old.model ≡ run.now.model }
-        ensures noted { self.new ≡ record self.old { noted = Some (watched_values (map watched_of self.old.model.watch) run.now.now.state) } }
-        ensures new { result ≡ is_new (watched_values (map watched_of self.old.model.watch) run.now.now.state) self.old.noted }
+        ensures noted { self.new
+            ≡ record self.old {
+              noted = Some
+                  (watched_values (map watched_of self.old.model.watch) run.now.now.state);
+            } }
+        ensures new { result
+            ≡ is_new (watched_values
+            (map watched_of self.old.model.watch) run.now.now.state) self.old.noted }
     {
         self.note(run.state())
     }

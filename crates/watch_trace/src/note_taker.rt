@@ -19,12 +19,16 @@ pub trait NoteTaker<K> {
 
     /// Takes the note that the clock leaves this time in this state.
     fn take_at(&mut self, onto: &mut K, model: &Model, state: &State, time: u64)
-        ensures { takes (graph_of model.now) (At time (watched_values (map watched_of model.now.watch) state.now) ∷ []) (self.old, onto.old) (self.new, onto.new) };
+        ensures { takes (graph_of model.now)
+            (At time (watched_values (map watched_of model.now.watch) state.now) ∷ [])
+            (self.old, onto.old) (self.new, onto.new) };
 
     /// Takes the note that an event occurred at this time and left this state. Its vertex is at a place of the watch
     /// list.
     fn take_on(&mut self, onto: &mut K, model: &Model, state: &State, time: u64, place: usize)
-        ensures { takes (graph_of model.now) (On time place (watched_values (map watched_of model.now.watch) state.now) ∷ []) (self.old, onto.old) (self.new, onto.new) };
+        ensures { takes (graph_of model.now)
+            (On time place (watched_values (map watched_of model.now.watch) state.now) ∷ [])
+            (self.old, onto.old) (self.new, onto.new) };
 
     /// Whether it has failed, so that no more notes need be handed to it.
     fn has_failed(&self) -> bool

@@ -75,7 +75,8 @@ fn add_signed(bytes: &mut Vec<u8>, number: i64)
 /// Adds a word of two letters, a space and a number. Adds nothing where memory for them is refused.
 #[inline(always)]
 pub fn add_head(bytes: &mut Vec<u8>, first: u8, second: u8, number: u64) -> Result<(), NoMemory>
-    ensures ok { OnOk result (bytes.new.items ≡ bytes.old.items ++ ((first ∷ second ∷ codes " ") ++ decimal number)) }
+    ensures ok { OnOk result
+        (bytes.new.items ≡ bytes.old.items ++ ((first ∷ second ∷ codes " ") ++ decimal number)) }
     ensures err { OnErr result (bytes.new.items ≡ bytes.old.items) }
 {
     bytes.reserve(23)?;
@@ -89,7 +90,9 @@ pub fn add_head(bytes: &mut Vec<u8>, first: u8, second: u8, number: u64) -> Resu
 /// Adds a name and a value, after a space. Adds nothing where memory for them is refused.
 #[inline(always)]
 pub fn add_cell(bytes: &mut Vec<u8>, name: &[u8], value: i64) -> Result<(), NoMemory>
-    ensures ok { OnOk result (bytes.new.items ≡ bytes.old.items ++ (codes " " ++ name.now ++ codes "=" ++ signed_decimal value)) }
+    ensures ok { OnOk result
+        (bytes.new.items
+        ≡ bytes.old.items ++ (codes " " ++ name.now ++ codes "=" ++ signed_decimal value)) }
     ensures err { OnErr result (bytes.new.items ≡ bytes.old.items) }
 {
     bytes.reserve(name.len() + 22)?;

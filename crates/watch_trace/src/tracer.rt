@@ -55,7 +55,8 @@ impl<'m> Tracer<'m> {
         requires one_model { self.now.model ≡ run.now.model }
         requires goes_on { run.now.faulted ≡ None }
         ensures { result ≡ (leaves_time run.now.now.clock until (next_entry run.now.now.pending)
-            && is_new (watched_values (map watched_of self.now.model.watch) run.now.now.state) self.now.noted) }
+            && is_new (watched_values
+            (map watched_of self.now.model.watch) run.now.now.state) self.now.noted) }
     {
         self.last_notes.leaving(run, run.next(), until)
     }
@@ -63,7 +64,11 @@ impl<'m> Tracer<'m> {
     /// Takes the run's watched values as those of the last `at` note.
     pub fn remember<P: Pending>(&mut self, run: &Run<'m, P>)
         requires one_model { self.old.model ≡ run.now.model }
-        ensures { self.new ≡ record self.old { noted = Some (watched_values (map watched_of self.old.model.watch) run.now.now.state) } }
+        ensures { self.new
+            ≡ record self.old {
+              noted = Some
+                  (watched_values (map watched_of self.old.model.watch) run.now.now.state);
+            } }
     {
         let _new = self.last_notes.remember(run);
     }
@@ -77,8 +82,14 @@ impl<'m> Tracer<'m> {
 
     /// Takes a value for each watched cell, in order, as those of the last `at` note.
     pub fn note_values(&mut self, values: &[i64])
-        requires { length values.now ≡ sum (watched_sizes (graph_of self.old.model) (map watched_of self.old.model.watch)) }
-        ensures { self.new ≡ record self.old { noted = Some (cut_up (watched_sizes (graph_of self.old.model) (map watched_of self.old.model.watch)) values.now) } }
+        requires { length values.now
+            ≡ sum (watched_sizes (graph_of self.old.model) (map watched_of self.old.model.watch)) }
+        ensures { self.new
+            ≡ record self.old {
+              noted = Some
+                  (cut_up (watched_sizes (graph_of self.old.model)
+                  (map watched_of self.old.model.watch)) values.now);
+            } }
     {
         self.last_notes.note_values(values);
     }

@@ -28,7 +28,9 @@ fn run_from_blank<'m, P: Pending, K, T: NoteTaker<K>, L: Ledger>(
     requires parts { blank.parts ≡ L.parts }
     requires some { 0 < blank.parts }
     requires can { CanFollow until events run.old last_notes.old }
-    ensures { RanToOutcome T.takes (λ p. T.failed p.0) until events run.old last_notes.old result run.new last_notes.new (taker.old, onto.old) (taker.new, onto.new) }
+    ensures { RanToOutcome T.takes
+        (λ p. T.failed p.0) until events run.old last_notes.old result run.new last_notes.new
+        (taker.old, onto.old) (taker.new, onto.new) }
 {
     let mut steps: Steps<L> = Steps::begin(blank);
     run_to_outcome(last_notes, run, until, events, taker, onto, &mut steps)
@@ -44,7 +46,9 @@ pub fn run_uncounted<'m, P: Pending, K, T: NoteTaker<K>>(
     onto: &mut K,
 ) -> Outcome
     requires can { CanFollow until events run.old last_notes.old }
-    ensures { RanToOutcome T.takes (λ p. T.failed p.0) until events run.old last_notes.old result run.new last_notes.new (taker.old, onto.old) (taker.new, onto.new) }
+    ensures { RanToOutcome T.takes
+        (λ p. T.failed p.0) until events run.old last_notes.old result run.new last_notes.new
+        (taker.old, onto.old) (taker.new, onto.new) }
 {
     let blank = Blank::new(1);
     run_from_blank::<P, K, T, Brand>(last_notes, run, until, events, taker, onto, blank)

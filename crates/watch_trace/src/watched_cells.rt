@@ -46,7 +46,9 @@ fn add_zeros(values: &mut Vec<i64>, count: usize) -> Result<(), NoMemory>
 
 /// A zero for each watched cell of a model.
 pub fn zeros(alloc: Global, model: &Model) -> Result<Vec<i64>, NoMemory>
-    ensures { IfOk result (λ values. length values.items ≡ sum_by (watched_size (graph_of model.now)) (map watched_of model.now.watch)) }
+    ensures { IfOk result
+        (λ values. length values.items
+        ≡ sum_by (watched_size (graph_of model.now)) (map watched_of model.now.watch)) }
 {
     let mut values = Vec::new(alloc);
     for watch in model.watch.as_slice() {
@@ -57,8 +59,10 @@ pub fn zeros(alloc: Global, model: &Model) -> Result<Vec<i64>, NoMemory>
 
 /// Whether these are the watched values of a state.
 pub fn are_same(watch: &[Watch], values: &[i64], state: &State) -> bool
-    requires { length (flat_map (values_watched state.now) (map watched_of watch.now)) ≡ length values.now }
-    ensures { result ≡ same_values values.now (flat_map (values_watched state.now) (map watched_of watch.now)) }
+    requires { length (flat_map (values_watched state.now) (map watched_of watch.now))
+        ≡ length values.now }
+    ensures { result
+        ≡ same_values values.now (flat_map (values_watched state.now) (map watched_of watch.now)) }
 {
     let mut from = 0;
     for watched in watch {
@@ -114,9 +118,12 @@ fn replace(place: &mut [i64], cells: &[i64]) -> bool
 
 /// Takes the watched values of a state in place of those before, and gives whether they aren't the same.
 pub fn take_values(values: &mut [i64], watch: &[Watch], state: &State) -> bool
-    requires { length (flat_map (values_watched state.now) (map watched_of watch.now)) ≡ length values.old }
+    requires { length (flat_map (values_watched state.now) (map watched_of watch.now))
+        ≡ length values.old }
     ensures taken { values.new ≡ flat_map (values_watched state.now) (map watched_of watch.now) }
-    ensures new { result ≡ not (same_values values.old (flat_map (values_watched state.now) (map watched_of watch.now))) }
+    ensures new { result
+        ≡ not (same_values values.old
+        (flat_map (values_watched state.now) (map watched_of watch.now))) }
 {
     let mut new = false;
     let mut from = 0;

@@ -14,23 +14,33 @@ ghost use Rattle.worked_runs.specs.Texts.{desk};
 /// Each job answers what it is asked, on a model on which another job answers otherwise.
 pub fn models_are_answered()
     ensures check { AnswersModel models.Check clock (done (codes "accepted CLOCK\n")) }
-    ensures print { AnswersModel models.Print clock (done (codes "model CLOCK;\nvar N : 0..3 clip = 0;\nwatch N;\nvertex RUN {\n  set N := N + 1;\n  schedule RUN after 5;\n}\nend\n")) }
+    ensures print { AnswersModel models.Print clock
+        (done (codes "model CLOCK;\nvar N : 0..3 clip = 0;\nwatch N;\nvertex RUN {\n  set N := N + 1;\n  schedule RUN after 5;\n}\nend\n")) }
     ensures uses { AnswersModel models.Uses desk
-        (done (codes "N readers SERVE writers SERVE watched yes\n" ++ codes "OPEN readers SERVE writers SERVE watched no\n" ++ codes "CELLS readers - writers SERVE watched no\n")) }
+        (done (codes "N readers SERVE writers SERVE watched yes\n"
+        ++ codes "OPEN readers SERVE writers SERVE watched no\n"
+        ++ codes "CELLS readers - writers SERVE watched no\n")) }
     ensures conflicts { AnswersModel models.Conflicts clock (done (codes "RUN RUN variables\n")) }
     ensures describe { AnswersModel models.Describe loop
         (done (codes "This is the model LOOP.\nNothing is watched.\nThe first event is RUN.\nEvent RUN takes no values.\nAfter RUN, event A follows at once.\n"
         ++ codes "Event A takes no values.\nAfter A, event B follows at once.\nEvent B takes no values.\nAfter B, event A follows at once.\n")) }
-    ensures run { AnswersModel (models.Run (record { until = 7; seed = 42; events = 9; starts = []; room = 5 })) clock (Given ends.Done (codes "at 0 N=1\nat 5 N=2\nstopped 7\n")) }
-    ensures run_at_its_budget { AnswersModel (models.Run (record { until = 12; seed = 42; events = 2; starts = []; room = 5 })) clock (Given ends.Budget (codes "at 0 N=1\nbudget 2\n")) }
-    ensures save { AnswersModel (models.Save (record { until = 12; seed = 42; events = 9; starts = [] })) clock (Refused refusals.Finished (codes "sigma: run finished\n")) }
+    ensures run { AnswersModel
+        (models.Run (record { until = 7; seed = 42; events = 9; starts = []; room = 5 })) clock
+        (Given ends.Done (codes "at 0 N=1\nat 5 N=2\nstopped 7\n")) }
+    ensures run_at_its_budget { AnswersModel
+        (models.Run (record { until = 12; seed = 42; events = 2; starts = []; room = 5 })) clock
+        (Given ends.Budget (codes "at 0 N=1\nbudget 2\n")) }
+    ensures save { AnswersModel
+        (models.Save (record { until = 12; seed = 42; events = 9; starts = [] })) clock
+        (Refused refusals.Finished (codes "sigma: run finished\n")) }
 {}
 
 /// A job that is done has no other status and no other bytes, and a text that is refused has its line.
 pub fn answers_have_forms()
     ensures done { done (codes "x") ≡ Given ends.Done (codes "x") }
     ensures is_done { IsDone (λ out. out ≡ codes "x") (Given ends.Done (codes "x")) }
-    ensures with_another_end { IsDone (λ out. out ≡ codes "x") (Given ends.Rejected (codes "x")) → ⊥ }
+    ensures with_another_end { IsDone (λ out. out ≡ codes "x") (Given ends.Rejected (codes "x"))
+        → ⊥ }
     ensures with_other_bytes { IsDone (λ out. out ≡ codes "x") (Given ends.Done (codes "y")) → ⊥ }
     ensures refused { refused (codes "x") ≡ Refused refusals.Refused (codes "x") }
     ensures too_long { too_long ≡ codes "sigma: text too long\n" }

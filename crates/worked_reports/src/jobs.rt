@@ -61,70 +61,96 @@ pub fn other_words_are_no_job()
 pub fn runs_are_asked_for()
     ensures usual { asked (codes "run --until=1 --seed=2 --events=3") ≡ a_run 1 2 3 [] 4096 }
     ensures least { asked (codes "run --until=0 --seed=0 --events=1 --room=0") ≡ a_run 0 0 1 [] 0 }
-    ensures greatest { asked (codes "run --until=281474976710656 --seed=18446744073709551615 --events=1099511627776 --room=4194304") ≡ a_run 281474976710656 18446744073709551615 1099511627776 [] 4194304 }
+    ensures greatest { asked
+        (codes "run --until=281474976710656 --seed=18446744073709551615 --events=1099511627776 --room=4194304") ≡ a_run 281474976710656 18446744073709551615 1099511627776 [] 4194304 }
     ensures until_above { asked (codes "run --until=281474976710657 --seed=2 --events=3") ≡ None }
     ensures no_until { asked (codes "run --seed=2 --events=3") ≡ None }
     ensures until_twice { asked (codes "run --until=1 --seed=2 --events=3 --until=0") ≡ None }
-    ensures seed_above { asked (codes "run --until=1 --seed=18446744073709551616 --events=3") ≡ None }
+    ensures seed_above { asked (codes "run --until=1 --seed=18446744073709551616 --events=3")
+        ≡ None }
     ensures no_seed { asked (codes "run --until=1 --events=3") ≡ None }
     ensures seed_twice { asked (codes "run --until=1 --seed=2 --events=3 --seed=0") ≡ None }
     ensures events_above { asked (codes "run --until=1 --seed=2 --events=1099511627777") ≡ None }
     ensures events_below { asked (codes "run --until=1 --seed=2 --events=0") ≡ None }
     ensures no_events { asked (codes "run --until=1 --seed=2") ≡ None }
     ensures events_twice { asked (codes "run --until=1 --seed=2 --events=3 --events=1") ≡ None }
-    ensures starts { asked (codes "run --until=1 --seed=2 --events=3 --start=-5,6") ≡ a_run 1 2 3 (neg_ℤ (pos 5) ∷ pos 6 ∷ []) 4096 }
+    ensures starts { asked (codes "run --until=1 --seed=2 --events=3 --start=-5,6")
+        ≡ a_run 1 2 3 (neg_ℤ (pos 5) ∷ pos 6 ∷ []) 4096 }
     ensures bad_starts { asked (codes "run --until=1 --seed=2 --events=3 --start=") ≡ None }
-    ensures starts_twice { asked (codes "run --until=1 --seed=2 --events=3 --start=1 --start=1") ≡ None }
+    ensures starts_twice { asked (codes "run --until=1 --seed=2 --events=3 --start=1 --start=1")
+        ≡ None }
     ensures room_above { asked (codes "run --until=1 --seed=2 --events=3 --room=4194305") ≡ None }
-    ensures room_twice { asked (codes "run --until=1 --seed=2 --events=3 --room=1 --room=1") ≡ None }
+    ensures room_twice { asked (codes "run --until=1 --seed=2 --events=3 --room=1 --room=1")
+        ≡ None }
     ensures no_runs { asked (codes "run --until=1 --seed=2 --events=3 --runs=1") ≡ None }
     ensures no_vertices { asked (codes "run --until=1 --seed=2 --events=3 --vertices=1") ≡ None }
 {}
 
 /// `replicate` needs how many runs there are besides, and has no room.
 pub fn replications_are_asked_for()
-    ensures usual { asked (codes "replicate --until=1 --seed=2 --events=3 --runs=4") ≡ Some (jobs.Replicate 1 2 3 4 []) }
-    ensures least { asked (codes "replicate --until=0 --seed=0 --events=1 --runs=1") ≡ Some (jobs.Replicate 0 0 1 1 []) }
-    ensures greatest { asked (codes "replicate --until=281474976710656 --seed=18446744073709551615 --events=1099511627776 --runs=65536") ≡ Some (jobs.Replicate 281474976710656 18446744073709551615 1099511627776 65536 []) }
-    ensures until_above { asked (codes "replicate --until=281474976710657 --seed=2 --events=3 --runs=4") ≡ None }
+    ensures usual { asked (codes "replicate --until=1 --seed=2 --events=3 --runs=4")
+        ≡ Some (jobs.Replicate 1 2 3 4 []) }
+    ensures least { asked (codes "replicate --until=0 --seed=0 --events=1 --runs=1")
+        ≡ Some (jobs.Replicate 0 0 1 1 []) }
+    ensures greatest { asked
+        (codes "replicate --until=281474976710656 --seed=18446744073709551615 --events=1099511627776 --runs=65536") ≡ Some (jobs.Replicate 281474976710656 18446744073709551615 1099511627776 65536 []) }
+    ensures until_above { asked
+        (codes "replicate --until=281474976710657 --seed=2 --events=3 --runs=4") ≡ None }
     ensures no_until { asked (codes "replicate --seed=2 --events=3 --runs=4") ≡ None }
-    ensures until_twice { asked (codes "replicate --until=1 --seed=2 --events=3 --runs=4 --until=0") ≡ None }
-    ensures seed_above { asked (codes "replicate --until=1 --seed=18446744073709551616 --events=3 --runs=4") ≡ None }
+    ensures until_twice { asked (codes "replicate --until=1 --seed=2 --events=3 --runs=4 --until=0")
+        ≡ None }
+    ensures seed_above { asked
+        (codes "replicate --until=1 --seed=18446744073709551616 --events=3 --runs=4") ≡ None }
     ensures no_seed { asked (codes "replicate --until=1 --events=3 --runs=4") ≡ None }
-    ensures seed_twice { asked (codes "replicate --until=1 --seed=2 --events=3 --runs=4 --seed=0") ≡ None }
-    ensures events_above { asked (codes "replicate --until=1 --seed=2 --events=1099511627777 --runs=4") ≡ None }
+    ensures seed_twice { asked (codes "replicate --until=1 --seed=2 --events=3 --runs=4 --seed=0")
+        ≡ None }
+    ensures events_above { asked
+        (codes "replicate --until=1 --seed=2 --events=1099511627777 --runs=4") ≡ None }
     ensures events_below { asked (codes "replicate --until=1 --seed=2 --events=0 --runs=4") ≡ None }
     ensures no_events { asked (codes "replicate --until=1 --seed=2 --runs=4") ≡ None }
-    ensures events_twice { asked (codes "replicate --until=1 --seed=2 --events=3 --runs=4 --events=1") ≡ None }
-    ensures runs_above { asked (codes "replicate --until=1 --seed=2 --events=3 --runs=65537") ≡ None }
+    ensures events_twice { asked
+        (codes "replicate --until=1 --seed=2 --events=3 --runs=4 --events=1") ≡ None }
+    ensures runs_above { asked (codes "replicate --until=1 --seed=2 --events=3 --runs=65537")
+        ≡ None }
     ensures runs_below { asked (codes "replicate --until=1 --seed=2 --events=3 --runs=0") ≡ None }
     ensures no_runs { asked (codes "replicate --until=1 --seed=2 --events=3") ≡ None }
-    ensures runs_twice { asked (codes "replicate --until=1 --seed=2 --events=3 --runs=4 --runs=1") ≡ None }
-    ensures starts { asked (codes "replicate --until=1 --seed=2 --events=3 --runs=4 --start=-5,6") ≡ Some (jobs.Replicate 1 2 3 4 (neg_ℤ (pos 5) ∷ pos 6 ∷ [])) }
-    ensures bad_starts { asked (codes "replicate --until=1 --seed=2 --events=3 --runs=4 --start=") ≡ None }
-    ensures starts_twice { asked (codes "replicate --until=1 --seed=2 --events=3 --runs=4 --start=1 --start=1") ≡ None }
-    ensures no_room { asked (codes "replicate --until=1 --seed=2 --events=3 --runs=4 --room=1") ≡ None }
-    ensures no_vertices { asked (codes "replicate --until=1 --seed=2 --events=3 --runs=4 --vertices=1") ≡ None }
+    ensures runs_twice { asked (codes "replicate --until=1 --seed=2 --events=3 --runs=4 --runs=1")
+        ≡ None }
+    ensures starts { asked (codes "replicate --until=1 --seed=2 --events=3 --runs=4 --start=-5,6")
+        ≡ Some (jobs.Replicate 1 2 3 4 (neg_ℤ (pos 5) ∷ pos 6 ∷ [])) }
+    ensures bad_starts { asked (codes "replicate --until=1 --seed=2 --events=3 --runs=4 --start=")
+        ≡ None }
+    ensures starts_twice { asked
+        (codes "replicate --until=1 --seed=2 --events=3 --runs=4 --start=1 --start=1") ≡ None }
+    ensures no_room { asked (codes "replicate --until=1 --seed=2 --events=3 --runs=4 --room=1")
+        ≡ None }
+    ensures no_vertices { asked
+        (codes "replicate --until=1 --seed=2 --events=3 --runs=4 --vertices=1") ≡ None }
 {}
 
 /// `save` needs its stop time, seed and events, and may have starting values.
 pub fn saved_runs_are_asked_for()
     ensures usual { asked (codes "save --until=1 --seed=2 --events=3") ≡ Some (jobs.Save 1 2 3 []) }
     ensures least { asked (codes "save --until=0 --seed=0 --events=1") ≡ Some (jobs.Save 0 0 1 []) }
-    ensures greatest { asked (codes "save --until=281474976710656 --seed=18446744073709551615 --events=1099511627776") ≡ Some (jobs.Save 281474976710656 18446744073709551615 1099511627776 []) }
+    ensures greatest { asked
+        (codes "save --until=281474976710656 --seed=18446744073709551615 --events=1099511627776")
+        ≡ Some (jobs.Save 281474976710656 18446744073709551615 1099511627776 []) }
     ensures until_above { asked (codes "save --until=281474976710657 --seed=2 --events=3") ≡ None }
     ensures no_until { asked (codes "save --seed=2 --events=3") ≡ None }
     ensures until_twice { asked (codes "save --until=1 --seed=2 --events=3 --until=0") ≡ None }
-    ensures seed_above { asked (codes "save --until=1 --seed=18446744073709551616 --events=3") ≡ None }
+    ensures seed_above { asked (codes "save --until=1 --seed=18446744073709551616 --events=3")
+        ≡ None }
     ensures no_seed { asked (codes "save --until=1 --events=3") ≡ None }
     ensures seed_twice { asked (codes "save --until=1 --seed=2 --events=3 --seed=0") ≡ None }
     ensures events_above { asked (codes "save --until=1 --seed=2 --events=1099511627777") ≡ None }
     ensures events_below { asked (codes "save --until=1 --seed=2 --events=0") ≡ None }
     ensures no_events { asked (codes "save --until=1 --seed=2") ≡ None }
     ensures events_twice { asked (codes "save --until=1 --seed=2 --events=3 --events=1") ≡ None }
-    ensures starts { asked (codes "save --until=1 --seed=2 --events=3 --start=-5,6") ≡ Some (jobs.Save 1 2 3 (neg_ℤ (pos 5) ∷ pos 6 ∷ [])) }
+    ensures starts { asked (codes "save --until=1 --seed=2 --events=3 --start=-5,6")
+        ≡ Some (jobs.Save 1 2 3 (neg_ℤ (pos 5) ∷ pos 6 ∷ [])) }
     ensures bad_starts { asked (codes "save --until=1 --seed=2 --events=3 --start=") ≡ None }
-    ensures starts_twice { asked (codes "save --until=1 --seed=2 --events=3 --start=1 --start=1") ≡ None }
+    ensures starts_twice { asked (codes "save --until=1 --seed=2 --events=3 --start=1 --start=1")
+        ≡ None }
     ensures no_room { asked (codes "save --until=1 --seed=2 --events=3 --room=1") ≡ None }
     ensures no_runs { asked (codes "save --until=1 --seed=2 --events=3 --runs=1") ≡ None }
     ensures no_vertices { asked (codes "save --until=1 --seed=2 --events=3 --vertices=1") ≡ None }
@@ -133,8 +159,11 @@ pub fn saved_runs_are_asked_for()
 /// `resume` needs its stop time and event budget, and may have room. One event is the least.
 pub fn resumed_runs_are_asked_for()
     ensures usual { asked (codes "resume --until=1 --events=3") ≡ Some (jobs.Resume 1 3 4096) }
-    ensures least { asked (codes "resume --until=0 --events=1 --room=0") ≡ Some (jobs.Resume 0 1 0) }
-    ensures greatest { asked (codes "resume --until=281474976710656 --events=1099511627776 --room=4194304") ≡ Some (jobs.Resume 281474976710656 1099511627776 4194304) }
+    ensures least { asked (codes "resume --until=0 --events=1 --room=0")
+        ≡ Some (jobs.Resume 0 1 0) }
+    ensures greatest { asked
+        (codes "resume --until=281474976710656 --events=1099511627776 --room=4194304")
+        ≡ Some (jobs.Resume 281474976710656 1099511627776 4194304) }
     ensures until_above { asked (codes "resume --until=281474976710657 --events=3") ≡ None }
     ensures no_until { asked (codes "resume --events=3") ≡ None }
     ensures until_twice { asked (codes "resume --until=1 --events=3 --until=0") ≡ None }
@@ -152,24 +181,39 @@ pub fn resumed_runs_are_asked_for()
 
 /// `trial` needs its seed, how many vertices there are, its stop time and its event budget.
 pub fn trials_are_asked_for()
-    ensures usual { asked (codes "trial --until=1 --seed=2 --events=3 --vertices=4") ≡ Some (jobs.Trial 2 4 1 3) }
-    ensures least { asked (codes "trial --until=0 --seed=0 --events=1 --vertices=1") ≡ Some (jobs.Trial 0 1 0 1) }
-    ensures greatest { asked (codes "trial --until=281474976710656 --seed=18446744073709551615 --events=1099511627776 --vertices=500") ≡ Some (jobs.Trial 18446744073709551615 500 281474976710656 1099511627776) }
-    ensures until_above { asked (codes "trial --until=281474976710657 --seed=2 --events=3 --vertices=4") ≡ None }
+    ensures usual { asked (codes "trial --until=1 --seed=2 --events=3 --vertices=4")
+        ≡ Some (jobs.Trial 2 4 1 3) }
+    ensures least { asked (codes "trial --until=0 --seed=0 --events=1 --vertices=1")
+        ≡ Some (jobs.Trial 0 1 0 1) }
+    ensures greatest { asked
+        (codes "trial --until=281474976710656 --seed=18446744073709551615 --events=1099511627776 --vertices=500") ≡ Some (jobs.Trial 18446744073709551615 500 281474976710656 1099511627776) }
+    ensures until_above { asked
+        (codes "trial --until=281474976710657 --seed=2 --events=3 --vertices=4") ≡ None }
     ensures no_until { asked (codes "trial --seed=2 --events=3 --vertices=4") ≡ None }
-    ensures until_twice { asked (codes "trial --until=1 --seed=2 --events=3 --vertices=4 --until=0") ≡ None }
-    ensures seed_above { asked (codes "trial --until=1 --seed=18446744073709551616 --events=3 --vertices=4") ≡ None }
+    ensures until_twice { asked (codes "trial --until=1 --seed=2 --events=3 --vertices=4 --until=0")
+        ≡ None }
+    ensures seed_above { asked
+        (codes "trial --until=1 --seed=18446744073709551616 --events=3 --vertices=4") ≡ None }
     ensures no_seed { asked (codes "trial --until=1 --events=3 --vertices=4") ≡ None }
-    ensures seed_twice { asked (codes "trial --until=1 --seed=2 --events=3 --vertices=4 --seed=0") ≡ None }
-    ensures events_above { asked (codes "trial --until=1 --seed=2 --events=1099511627777 --vertices=4") ≡ None }
+    ensures seed_twice { asked (codes "trial --until=1 --seed=2 --events=3 --vertices=4 --seed=0")
+        ≡ None }
+    ensures events_above { asked
+        (codes "trial --until=1 --seed=2 --events=1099511627777 --vertices=4") ≡ None }
     ensures events_below { asked (codes "trial --until=1 --seed=2 --events=0 --vertices=4") ≡ None }
     ensures no_events { asked (codes "trial --until=1 --seed=2 --vertices=4") ≡ None }
-    ensures events_twice { asked (codes "trial --until=1 --seed=2 --events=3 --vertices=4 --events=1") ≡ None }
-    ensures vertices_above { asked (codes "trial --until=1 --seed=2 --events=3 --vertices=501") ≡ None }
-    ensures vertices_below { asked (codes "trial --until=1 --seed=2 --events=3 --vertices=0") ≡ None }
+    ensures events_twice { asked
+        (codes "trial --until=1 --seed=2 --events=3 --vertices=4 --events=1") ≡ None }
+    ensures vertices_above { asked (codes "trial --until=1 --seed=2 --events=3 --vertices=501")
+        ≡ None }
+    ensures vertices_below { asked (codes "trial --until=1 --seed=2 --events=3 --vertices=0")
+        ≡ None }
     ensures no_vertices { asked (codes "trial --until=1 --seed=2 --events=3") ≡ None }
-    ensures vertices_twice { asked (codes "trial --until=1 --seed=2 --events=3 --vertices=4 --vertices=1") ≡ None }
-    ensures no_starts { asked (codes "trial --until=1 --seed=2 --events=3 --vertices=4 --start=1") ≡ None }
-    ensures no_room { asked (codes "trial --until=1 --seed=2 --events=3 --vertices=4 --room=1") ≡ None }
-    ensures no_runs { asked (codes "trial --until=1 --seed=2 --events=3 --vertices=4 --runs=1") ≡ None }
+    ensures vertices_twice { asked
+        (codes "trial --until=1 --seed=2 --events=3 --vertices=4 --vertices=1") ≡ None }
+    ensures no_starts { asked (codes "trial --until=1 --seed=2 --events=3 --vertices=4 --start=1")
+        ≡ None }
+    ensures no_room { asked (codes "trial --until=1 --seed=2 --events=3 --vertices=4 --room=1")
+        ≡ None }
+    ensures no_runs { asked (codes "trial --until=1 --seed=2 --events=3 --vertices=4 --runs=1")
+        ≡ None }
 {}

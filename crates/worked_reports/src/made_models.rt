@@ -8,16 +8,26 @@ ghost use Rattle.worked_runs.specs.Building.{ranged, clipped, whole, set, draw, 
 /// The counter that a vertex raises, a draw in the first and the last form, and the edges of each form: to the vertex picked, to the
 /// next one, and from the last one back to the first.
 pub fn vertices_have_forms()
-    ensures first { vertex_by 7 4 5 0 2 ≡ event (codes "E4") (set 5 (plus_one 5) ∷ draw 8 54 1 6 ∷ []) (schedule 2 (Scalar 8) ∷ []) }
-    ensures second { vertex_by 7 4 5 1 2 ≡ event (codes "E4") (set 5 (plus_one 5) ∷ []) (urgent 5 ∷ []) }
-    ensures second_before_the_last { vertex_by 7 5 5 1 2 ≡ event (codes "E5") (set 5 (plus_one 5) ∷ []) (urgent 6 ∷ []) }
-    ensures second_of_the_last { vertex_by 7 6 5 1 2 ≡ event (codes "E6") (set 5 (plus_one 5) ∷ []) (schedule 0 (whole 2) ∷ []) }
+    ensures first { vertex_by 7 4 5 0 2
+        ≡ event (codes "E4") (set 5 (plus_one 5) ∷ draw 8 54 1 6 ∷ [])
+        (schedule 2 (Scalar 8) ∷ []) }
+    ensures second { vertex_by 7 4 5 1 2
+        ≡ event (codes "E4") (set 5 (plus_one 5) ∷ []) (urgent 5 ∷ []) }
+    ensures second_before_the_last { vertex_by 7 5 5 1 2
+        ≡ event (codes "E5") (set 5 (plus_one 5) ∷ []) (urgent 6 ∷ []) }
+    ensures second_of_the_last { vertex_by 7 6 5 1 2
+        ≡ event (codes "E6") (set 5 (plus_one 5) ∷ []) (schedule 0 (whole 2) ∷ []) }
     ensures third { vertex_by 7 4 5 2 3 ≡ event (codes "E4") (set 5 (plus_one 5) ∷ [])
-        (only_if (scalar_is Below 0 50) (schedule 3 (whole 3)) ∷ only_if (scalar_is AtLeast 0 50) (schedule 0 (whole 9)) ∷ []) }
-    ensures fourth { vertex_by 7 4 5 3 2 ≡ event (codes "E4") (set 5 (plus_one 5) ∷ draw 8 54 1 6 ∷ [])
-        (only_if (scalar_is Above 1 99) (schedule 2 (whole 1)) ∷ only_if (scalar_is Below 1 100) (schedule 5 (Scalar 8)) ∷ []) }
-    ensures fourth_of_the_last { vertex_by 7 6 5 3 2 ≡ event (codes "E6") (set 5 (plus_one 5) ∷ draw 8 54 1 6 ∷ [])
-        (only_if (scalar_is Above 1 99) (schedule 2 (whole 1)) ∷ only_if (scalar_is Below 1 100) (schedule 0 (Scalar 8)) ∷ []) }
+        (only_if (scalar_is Below 0 50) (schedule 3 (whole 3))
+        ∷ only_if (scalar_is AtLeast 0 50) (schedule 0 (whole 9)) ∷ []) }
+    ensures fourth { vertex_by 7 4 5 3 2
+        ≡ event (codes "E4") (set 5 (plus_one 5) ∷ draw 8 54 1 6 ∷ [])
+        (only_if (scalar_is Above 1 99) (schedule 2 (whole 1))
+        ∷ only_if (scalar_is Below 1 100) (schedule 5 (Scalar 8)) ∷ []) }
+    ensures fourth_of_the_last { vertex_by 7 6 5 3 2
+        ≡ event (codes "E6") (set 5 (plus_one 5) ∷ draw 8 54 1 6 ∷ [])
+        (only_if (scalar_is Above 1 99) (schedule 2 (whole 1))
+        ∷ only_if (scalar_is Below 1 100) (schedule 0 (Scalar 8)) ∷ []) }
 {}
 
 /// Each vertex takes three words of stream 54, for one of eight counters, one of four forms and one of the vertices. The first six of
@@ -41,11 +51,16 @@ pub fn numbers_make_models()
     ensures gap { gap ≡ ranged (codes "GAP") 1 6 1 }
     ensures of_two { generated 42 2 ≡ record {
       name = codes "TRIAL";
-      variables = clipped (ranged (codes "C0") 0 99 0) ∷ clipped (ranged (codes "C1") 0 99 0) ∷ clipped (ranged (codes "C2") 0 99 0) ∷ clipped (ranged (codes "C3") 0 99 0)
-          ∷ clipped (ranged (codes "C4") 0 99 0) ∷ clipped (ranged (codes "C5") 0 99 0) ∷ clipped (ranged (codes "C6") 0 99 0) ∷ clipped (ranged (codes "C7") 0 99 0) ∷ ranged (codes "GAP") 1 6 1 ∷ [];
+      variables = clipped (ranged (codes "C0") 0 99 0) ∷ clipped (ranged (codes "C1") 0 99 0)
+          ∷ clipped (ranged (codes "C2") 0 99 0) ∷ clipped (ranged (codes "C3") 0 99 0)
+          ∷ clipped (ranged (codes "C4") 0 99 0) ∷ clipped (ranged (codes "C5") 0 99 0)
+          ∷ clipped (ranged (codes "C6") 0 99 0) ∷ clipped (ranged (codes "C7") 0 99 0)
+          ∷ ranged (codes "GAP") 1 6 1 ∷ [];
       tables = [];
       watch = WatchedVariable 0 ∷ WatchedVariable 1 ∷ [];
       vertices = event (codes "E0") (set 5 (plus_one 5) ∷ []) (urgent 1 ∷ [])
-          ∷ event (codes "E1") (set 4 (plus_one 4) ∷ []) (only_if (scalar_is Below 0 50) (schedule 1 (whole 3)) ∷ only_if (scalar_is AtLeast 0 50) (schedule 0 (whole 9)) ∷ []) ∷ [];
+          ∷ event (codes "E1") (set 4 (plus_one 4) ∷ [])
+          (only_if (scalar_is Below 0 50) (schedule 1 (whole 3))
+          ∷ only_if (scalar_is AtLeast 0 50) (schedule 0 (whole 9)) ∷ []) ∷ [];
     } }
 {}

@@ -22,11 +22,20 @@ pub fn jobs_read_so()
     ensures fuse { reading_of jobs.Fuse ≡ readings.Model models.Fuse }
     ensures narrow { reading_of jobs.Narrow ≡ readings.Model models.Narrow }
     ensures describe { reading_of jobs.Describe ≡ readings.Model models.Describe }
-    ensures run { reading_of (jobs.Run 1 2 3 (pos 4 ∷ []) 5) ≡ readings.Model (models.Run (record { until = 1; seed = 2; events = 3; starts = pos 4 ∷ []; room = 5 })) }
-    ensures replicate { reading_of (jobs.Replicate 1 2 3 4 (pos 5 ∷ [])) ≡ readings.Model (models.Replicate (record { until = 1; seed = 2; events = 3; runs = 4; starts = pos 5 ∷ [] })) }
-    ensures save { reading_of (jobs.Save 1 2 3 (pos 4 ∷ [])) ≡ readings.Model (models.Save (record { until = 1; seed = 2; events = 3; starts = pos 4 ∷ [] })) }
-    ensures resume { reading_of (jobs.Resume 1 2 3) ≡ readings.Saved (saved_jobs.Resume (record { until = 1; events = 2; room = 3 })) }
-    ensures trial { reading_of (jobs.Trial 1 2 3 4) ≡ readings.Nothing (bare.Trial (record { seed = 1; vertices = 2; until = 3; events = 4 })) }
+    ensures run { reading_of (jobs.Run 1 2 3 (pos 4 ∷ []) 5)
+        ≡ readings.Model
+        (models.Run (record { until = 1; seed = 2; events = 3; starts = pos 4 ∷ []; room = 5 })) }
+    ensures replicate { reading_of (jobs.Replicate 1 2 3 4 (pos 5 ∷ []))
+        ≡ readings.Model
+        (models.Replicate
+        (record { until = 1; seed = 2; events = 3; runs = 4; starts = pos 5 ∷ [] })) }
+    ensures save { reading_of (jobs.Save 1 2 3 (pos 4 ∷ []))
+        ≡ readings.Model
+        (models.Save (record { until = 1; seed = 2; events = 3; starts = pos 4 ∷ [] })) }
+    ensures resume { reading_of (jobs.Resume 1 2 3)
+        ≡ readings.Saved (saved_jobs.Resume (record { until = 1; events = 2; room = 3 })) }
+    ensures trial { reading_of (jobs.Trial 1 2 3 4)
+        ≡ readings.Nothing (bare.Trial (record { seed = 1; vertices = 2; until = 3; events = 4 })) }
 {}
 
 /// A text has at most 4 MiB and a document 24.

@@ -39,10 +39,13 @@ pub fn ends_have_statuses()
     ensures read_fault { status_of_failure failures.ReadFault ≡ statuses.ReadFault }
     ensures write_fault { status_of_failure failures.WriteFault ≡ statuses.WriteFault }
     ensures no_memory { status_of_failure failures.NoMemory ≡ statuses.NoMemory }
-    ensures of_what_is_given { status_of_answer (Given ends.Rejected (codes "x")) ≡ statuses.Rejected }
-    ensures of_what_is_refused { status_of_answer (Refused refusals.TooLarge (codes "x")) ≡ statuses.TooLarge }
+    ensures of_what_is_given { status_of_answer (Given ends.Rejected (codes "x"))
+        ≡ statuses.Rejected }
+    ensures of_what_is_refused { status_of_answer (Refused refusals.TooLarge (codes "x"))
+        ≡ statuses.TooLarge }
     ensures bytes_of_what_is_given { bytes_of_answer (Given ends.Rejected (codes "x")) ≡ codes "x" }
-    ensures bytes_of_what_is_refused { bytes_of_answer (Refused refusals.TooLarge (codes "x")) ≡ [] }
+    ensures bytes_of_what_is_refused { bytes_of_answer (Refused refusals.TooLarge (codes "x"))
+        ≡ [] }
 {}
 
 /// Each failure has a line.

@@ -13,11 +13,15 @@ ghost use Rattle.worked_reports.specs.GaugeRuns.{from, spanning, cell, no_value,
 /// There is an item for each cell of each watched variable and for each watched vertex, in the order of the watch list, also for an
 /// array of one cell. A note's values are those of the watched variables alone.
 pub fn items_are_those_watched()
-    ensures all { items_reported gauge ≡ VertexAt 0 ∷ CellAt 1 0 ∷ CellAt 1 1 ∷ CellAt 2 0 ∷ VertexAt 3 ∷ CellAt 4 0 ∷ [] }
+    ensures all { items_reported gauge
+        ≡ VertexAt 0 ∷ CellAt 1 0 ∷ CellAt 1 1 ∷ CellAt 2 0 ∷ VertexAt 3 ∷ CellAt 4 0 ∷ [] }
     ensures nothing { items_reported (record gauge { watch = [] }) ≡ [] }
-    ensures cells_behind_a_vertex { cells_noted gauge.watch (gauged (pos 5) (pos 1) (pos 2) (pos 7)) 1 ≡ pos 5 ∷ pos 1 ∷ [] }
-    ensures cells_further_on { cells_noted gauge.watch (gauged (pos 5) (pos 1) (pos 2) (pos 7)) 4 ≡ pos 7 ∷ [] }
-    ensures cells_of_a_vertex { cells_noted gauge.watch (gauged (pos 5) (pos 1) (pos 2) (pos 7)) 3 ≡ [] }
+    ensures cells_behind_a_vertex { cells_noted gauge.watch
+        (gauged (pos 5) (pos 1) (pos 2) (pos 7)) 1 ≡ pos 5 ∷ pos 1 ∷ [] }
+    ensures cells_further_on { cells_noted gauge.watch (gauged (pos 5) (pos 1) (pos 2) (pos 7)) 4
+        ≡ pos 7 ∷ [] }
+    ensures cells_of_a_vertex { cells_noted gauge.watch (gauged (pos 5) (pos 1) (pos 2) (pos 7)) 3
+        ≡ [] }
     ensures first_cell { value_noted gauge 1 0 (gauged (pos 5) (pos 1) (pos 2) (pos 7)) ≡ pos 5 }
     ensures second_cell { value_noted gauge 1 1 (gauged (pos 5) (pos 1) (pos 2) (pos 7)) ≡ pos 1 }
     ensures scalar { value_noted gauge 2 0 (gauged (pos 5) (pos 1) (pos 2) (pos 7)) ≡ pos 2 }
@@ -25,19 +29,27 @@ pub fn items_are_those_watched()
 
 /// The course of a cell has its value at each `at` note, and nothing of an `on` note.
 pub fn cells_have_courses()
-    ensures second_cell { course gauge 1 1 gauge_notes ≡ from 3 (pos 1) ∷ from 4 (negsuc 0) ∷ from 6 (negsuc 0) ∷ [] }
-    ensures scalar { course gauge 2 0 gauge_notes ≡ from 3 (pos 2) ∷ from 4 (pos 6) ∷ from 6 (pos 4) ∷ [] }
-    ensures nothing_noted { course gauge 2 0 (On 2 0 (gauged (pos 9) (pos 9) (pos 9) (pos 9)) ∷ []) ≡ [] }
+    ensures second_cell { course gauge 1 1 gauge_notes
+        ≡ from 3 (pos 1) ∷ from 4 (negsuc 0) ∷ from 6 (negsuc 0) ∷ [] }
+    ensures scalar { course gauge 2 0 gauge_notes
+        ≡ from 3 (pos 2) ∷ from 4 (pos 6) ∷ from 6 (pos 4) ∷ [] }
+    ensures nothing_noted { course gauge 2 0 (On 2 0 (gauged (pos 9) (pos 9) (pos 9) (pos 9)) ∷ [])
+        ≡ [] }
 {}
 
 /// The least, the greatest and the last value, wherever each comes in the course.
 pub fn courses_have_spans()
     ensures none { span_of [] ≡ None }
     ensures one { span_of (from 3 (pos 5) ∷ []) ≡ Some (spanning (pos 5) (pos 5) (pos 5)) }
-    ensures rising { span_of (from 3 (negsuc 1) ∷ from 4 (pos 5) ∷ []) ≡ Some (spanning (negsuc 1) (pos 5) (pos 5)) }
-    ensures falling { span_of (from 3 (pos 5) ∷ from 4 (negsuc 1) ∷ []) ≡ Some (spanning (negsuc 1) (pos 5) (negsuc 1)) }
-    ensures up_and_down { span_of (from 0 (pos 3) ∷ from 4 (negsuc 1) ∷ from 5 (pos 7) ∷ from 9 (pos 1) ∷ []) ≡ Some (spanning (negsuc 1) (pos 7) (pos 1)) }
-    ensures first_of_both { span_of (from 0 (negsuc 3) ∷ from 4 (pos 0) ∷ from 5 (negsuc 1) ∷ []) ≡ Some (spanning (negsuc 3) (pos 0) (negsuc 1)) }
+    ensures rising { span_of (from 3 (negsuc 1) ∷ from 4 (pos 5) ∷ [])
+        ≡ Some (spanning (negsuc 1) (pos 5) (pos 5)) }
+    ensures falling { span_of (from 3 (pos 5) ∷ from 4 (negsuc 1) ∷ [])
+        ≡ Some (spanning (negsuc 1) (pos 5) (negsuc 1)) }
+    ensures up_and_down { span_of
+        (from 0 (pos 3) ∷ from 4 (negsuc 1) ∷ from 5 (pos 7) ∷ from 9 (pos 1) ∷ [])
+        ≡ Some (spanning (negsuc 1) (pos 7) (pos 1)) }
+    ensures first_of_both { span_of (from 0 (negsuc 3) ∷ from 4 (pos 0) ∷ from 5 (negsuc 1) ∷ [])
+        ≡ Some (spanning (negsuc 3) (pos 0) (negsuc 1)) }
 {}
 
 /// Each value counts for as long as it holds: up to the next one, and the last one up to the end.
@@ -46,8 +58,10 @@ pub fn courses_have_areas()
     ensures one { area_of (from 3 (pos 5) ∷ []) 10 ≡ pos 35 }
     ensures no_time { area_of (from 3 (pos 5) ∷ []) 3 ≡ pos 0 }
     ensures one_below_0 { area_of (from 3 (negsuc 0) ∷ []) 10 ≡ negsuc 6 }
-    ensures four { area_of (from 0 (pos 3) ∷ from 4 (negsuc 1) ∷ from 5 (pos 7) ∷ from 9 (pos 1) ∷ []) 12 ≡ pos 41 }
-    ensures up_to_a_later_end { area_of (from 0 (pos 3) ∷ from 4 (negsuc 1) ∷ from 5 (pos 7) ∷ from 9 (pos 1) ∷ []) 15 ≡ pos 44 }
+    ensures four { area_of
+        (from 0 (pos 3) ∷ from 4 (negsuc 1) ∷ from 5 (pos 7) ∷ from 9 (pos 1) ∷ []) 12 ≡ pos 41 }
+    ensures up_to_a_later_end { area_of
+        (from 0 (pos 3) ∷ from 4 (negsuc 1) ∷ from 5 (pos 7) ∷ from 9 (pos 1) ∷ []) 15 ≡ pos 44 }
 {}
 
 /// An event counts by its place in the watch list, once for each `on` note, also where it comes twice at one time.
@@ -77,13 +91,27 @@ pub fn runs_end_at_a_time()
 /// The whole tally of a run: areas go up to the run's time.
 pub fn runs_have_tallies()
     ensures stopped { tally_of gauge 10 (gauge_seen Stopped)
-        ≡ told ends.Stopped 10 (items.Count 3 ∷ cell (pos 0) (pos 5) (pos 0) (pos 15) ∷ cell (negsuc 0) (pos 1) (negsuc 0) (negsuc 4) ∷ cell (pos 2) (pos 6) (pos 4) (pos 30) ∷ items.Count 1 ∷ cell (pos 7) (pos 8) (pos 8) (pos 53) ∷ []) }
+        ≡ told ends.Stopped 10
+        (items.Count 3 ∷ cell (pos 0) (pos 5) (pos 0) (pos 15)
+        ∷ cell (negsuc 0) (pos 1) (negsuc 0) (negsuc 4) ∷ cell (pos 2) (pos 6) (pos 4) (pos 30)
+        ∷ items.Count 1 ∷ cell (pos 7) (pos 8) (pos 8) (pos 53) ∷ []) }
     ensures ended { tally_of gauge 10 (gauge_seen (Ended 7))
-        ≡ told ends.Ended 7 (items.Count 3 ∷ cell (pos 0) (pos 5) (pos 0) (pos 15) ∷ cell (negsuc 0) (pos 1) (negsuc 0) (negsuc 1) ∷ cell (pos 2) (pos 6) (pos 4) (pos 18) ∷ items.Count 1 ∷ cell (pos 7) (pos 8) (pos 8) (pos 29) ∷ []) }
+        ≡ told ends.Ended 7
+        (items.Count 3 ∷ cell (pos 0) (pos 5) (pos 0) (pos 15)
+        ∷ cell (negsuc 0) (pos 1) (negsuc 0) (negsuc 1) ∷ cell (pos 2) (pos 6) (pos 4) (pos 18)
+        ∷ items.Count 1 ∷ cell (pos 7) (pos 8) (pos 8) (pos 29) ∷ []) }
     ensures faulted { tally_of gauge 10 (gauge_seen (Faulted 8 faults.Overflow))
-        ≡ told ends.Fault 8 (items.Count 3 ∷ cell (pos 0) (pos 5) (pos 0) (pos 15) ∷ cell (negsuc 0) (pos 1) (negsuc 0) (negsuc 2) ∷ cell (pos 2) (pos 6) (pos 4) (pos 22) ∷ items.Count 1 ∷ cell (pos 7) (pos 8) (pos 8) (pos 37) ∷ []) }
+        ≡ told ends.Fault 8
+        (items.Count 3 ∷ cell (pos 0) (pos 5) (pos 0) (pos 15)
+        ∷ cell (negsuc 0) (pos 1) (negsuc 0) (negsuc 2) ∷ cell (pos 2) (pos 6) (pos 4) (pos 22)
+        ∷ items.Count 1 ∷ cell (pos 7) (pos 8) (pos 8) (pos 37) ∷ []) }
     ensures spent { tally_of gauge 10 (gauge_seen Going)
-        ≡ told ends.Budget 7 (items.Count 3 ∷ cell (pos 0) (pos 5) (pos 0) (pos 15) ∷ cell (negsuc 0) (pos 1) (negsuc 0) (negsuc 1) ∷ cell (pos 2) (pos 6) (pos 4) (pos 18) ∷ items.Count 1 ∷ cell (pos 7) (pos 8) (pos 8) (pos 29) ∷ []) }
+        ≡ told ends.Budget 7
+        (items.Count 3 ∷ cell (pos 0) (pos 5) (pos 0) (pos 15)
+        ∷ cell (negsuc 0) (pos 1) (negsuc 0) (negsuc 1) ∷ cell (pos 2) (pos 6) (pos 4) (pos 18)
+        ∷ items.Count 1 ∷ cell (pos 7) (pos 8) (pos 8) (pos 29) ∷ []) }
     ensures nothing_noted { tally_of gauge 10 (record { history = []; standing = Stopped })
-        ≡ told ends.Stopped 10 (items.Count 0 ∷ no_value (pos 0) ∷ no_value (pos 0) ∷ no_value (pos 0) ∷ items.Count 0 ∷ no_value (pos 0) ∷ []) }
+        ≡ told ends.Stopped 10
+        (items.Count 0 ∷ no_value (pos 0) ∷ no_value (pos 0) ∷ no_value (pos 0) ∷ items.Count 0
+        ∷ no_value (pos 0) ∷ []) }
 {}

@@ -8,8 +8,10 @@ ghost use Rattle.worked_runs.specs.Models.{clock, strict_clock, loop, bank};
 /// All edges of all vertices count.
 pub fn models_have_sizes()
     ensures edges { edges_in bank ≡ 5 }
-    ensures size { size_line (codes "reduced") bank ≡ codes "reduced vertices 4 variables 4 edges 5\n" }
-    ensures nothing { size_line (codes "original") (record loop { vertices = [] }) ≡ codes "original vertices 0 variables 0 edges 0\n" }
+    ensures size { size_line (codes "reduced") bank
+        ≡ codes "reduced vertices 4 variables 4 edges 5\n" }
+    ensures nothing { size_line (codes "original") (record loop { vertices = [] })
+        ≡ codes "original vertices 0 variables 0 edges 0\n" }
     ensures applications { applications_line 12 ≡ codes "applications 12\n" }
     ensures without_feed { without_feed (codes "stopped 20\n") ≡ codes "stopped 20" }
 {}
@@ -29,8 +31,10 @@ pub fn steps_are_counted()
 /// How each run ends, how many steps it made, and how many notes there are: those of the original first, and the number of
 /// applications between the sizes and the runs.
 pub fn trials_have_summaries()
-    ensures of_a_run { run_line (codes "original") clock 42 12 100 ≡ codes "original stopped 12 events 3 notes 3\n" }
-    ensures of_a_budget { run_line (codes "reduced") clock 42 12 2 ≡ codes "reduced budget 2 events 2 notes 1\n" }
+    ensures of_a_run { run_line (codes "original") clock 42 12 100
+        ≡ codes "original stopped 12 events 3 notes 3\n" }
+    ensures of_a_budget { run_line (codes "reduced") clock 42 12 2
+        ≡ codes "reduced budget 2 events 2 notes 1\n" }
     ensures of_two { summary clock loop 7 42 12 30
         ≡ codes "original vertices 1 variables 1 edges 1\nreduced vertices 3 variables 0 edges 3\napplications 7\n"
         ++ codes "original stopped 12 events 3 notes 3\nreduced budget 30 events 30 notes 0\n" }

@@ -53,7 +53,11 @@ pub fn one_range_holds_what_is_taken()
 /// The model that declares its inferred ranges, if that isn't too long.
 // inferred: S as declared, N and M; the length: as many bytes as a text may have, and one more.
 pub fn narrowed_models_have_texts()
-    ensures narrowed { IsNarrowed checked_model (model_with_ranges checked_model (with_two (span 2 5) (span 3 3))) }
-    ensures as_many_bytes { with_ranges_if_short (long_checked 4194181) (with_two (span 2 5) (span 3 3)) ≡ model_with_ranges (long_checked 4194181) (with_two (span 2 5) (span 3 3)) }
-    ensures too_many_bytes { with_ranges_if_short (long_checked 4194182) (with_two (span 2 5) (span 3 3)) ≡ long_checked 4194182 }
+    ensures narrowed { IsNarrowed checked_model
+        (model_with_ranges checked_model (with_two (span 2 5) (span 3 3))) }
+    ensures as_many_bytes { with_ranges_if_short (long_checked 4194181)
+        (with_two (span 2 5) (span 3 3))
+        ≡ model_with_ranges (long_checked 4194181) (with_two (span 2 5) (span 3 3)) }
+    ensures too_many_bytes { with_ranges_if_short (long_checked 4194182)
+        (with_two (span 2 5) (span 3 3)) ≡ long_checked 4194182 }
 {}

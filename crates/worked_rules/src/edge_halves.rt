@@ -25,11 +25,15 @@ pub fn the_first_edge_is_taken()
 // prune, RUN: may be taken; literal; always, if it doesn't fault; A: may be; never; always; never; then none. settle
 // likewise.
 pub fn edges_have_conditions()
-    ensures prune_run { map (λ k. first_failed (prune_conditions at_several_places 0 k)) (0 ∷ 1 ∷ 2 ∷ 3 ∷ []) ≡ Some 2 ∷ Some 2 ∷ Some 2 ∷ Some 1 ∷ [] }
-    ensures prune_a { map (λ k. first_failed (prune_conditions at_several_places 1 k)) (0 ∷ 1 ∷ 2 ∷ 3 ∷ 4 ∷ []) ≡ Some 2 ∷ None ∷ Some 2 ∷ None ∷ Some 1 ∷ [] }
+    ensures prune_run { map (λ k. first_failed (prune_conditions at_several_places 0 k))
+        (0 ∷ 1 ∷ 2 ∷ 3 ∷ []) ≡ Some 2 ∷ Some 2 ∷ Some 2 ∷ Some 1 ∷ [] }
+    ensures prune_a { map (λ k. first_failed (prune_conditions at_several_places 1 k))
+        (0 ∷ 1 ∷ 2 ∷ 3 ∷ 4 ∷ []) ≡ Some 2 ∷ None ∷ Some 2 ∷ None ∷ Some 1 ∷ [] }
     ensures prune_none { first_failed (prune_conditions at_several_places 3 0) ≡ Some 1 }
-    ensures settle_run { map (λ k. first_failed (settle_conditions at_several_places 0 k)) (0 ∷ 1 ∷ 2 ∷ 3 ∷ []) ≡ Some 3 ∷ Some 2 ∷ Some 3 ∷ Some 1 ∷ [] }
-    ensures settle_a { map (λ k. first_failed (settle_conditions at_several_places 1 k)) (0 ∷ 1 ∷ 2 ∷ 3 ∷ 4 ∷ []) ≡ Some 3 ∷ Some 3 ∷ None ∷ Some 3 ∷ Some 1 ∷ [] }
+    ensures settle_run { map (λ k. first_failed (settle_conditions at_several_places 0 k))
+        (0 ∷ 1 ∷ 2 ∷ 3 ∷ []) ≡ Some 3 ∷ Some 2 ∷ Some 3 ∷ Some 1 ∷ [] }
+    ensures settle_a { map (λ k. first_failed (settle_conditions at_several_places 1 k))
+        (0 ∷ 1 ∷ 2 ∷ 3 ∷ 4 ∷ []) ≡ Some 3 ∷ Some 3 ∷ None ∷ Some 3 ∷ Some 1 ∷ [] }
     ensures settle_none { first_failed (settle_conditions at_several_places 3 0) ≡ Some 1 }
 {}
 
@@ -37,7 +41,8 @@ pub fn edges_have_conditions()
 // RUN: the first; A: over an edge whose condition is `false`; B, C, D: each over one that cancels in another way, from the
 // vertex after it; SEEN: watched, and NEXT from there; FAR and LOST: though they lead to others, and to themselves.
 pub fn vertices_are_reached_as_far_as_edges_go()
-    ensures marks { reached_marks led ≡ true ∷ false ∷ true ∷ true ∷ true ∷ true ∷ true ∷ true ∷ false ∷ [] }
+    ensures marks { reached_marks led
+        ≡ true ∷ false ∷ true ∷ true ∷ true ∷ true ∷ true ∷ true ∷ false ∷ [] }
     ensures others { unreached led ≡ 1 ∷ 8 ∷ [] }
     ensures all { unreached led_alone ≡ [] }
 {}

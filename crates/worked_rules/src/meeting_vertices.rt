@@ -79,9 +79,12 @@ pub fn some_meet()
     ensures of_late { priorities_of of_priorities 5 ≡ 7 ∷ 9 ∷ [] }
     ensures of_what_is_cancelled { priorities_of of_priorities 8 ≡ [] }
     ensures of_no_vertex { priorities_of of_priorities 10 ≡ [] }
-    ensures apart { reasons_of of_priorities 8 9 ≡ record { meet = false; variables = true; streams = false; cancels = true } }
-    ensures apart_alone { reasons_of of_priorities 0 8 ≡ record { meet = false; variables = false; streams = false; cancels = false } }
-    ensures met_alone { reasons_of of_priorities 0 0 ≡ record { meet = true; variables = false; streams = false; cancels = false } }
+    ensures apart { reasons_of of_priorities 8 9
+        ≡ record { meet = false; variables = true; streams = false; cancels = true } }
+    ensures apart_alone { reasons_of of_priorities 0 8
+        ≡ record { meet = false; variables = false; streams = false; cancels = false } }
+    ensures met_alone { reasons_of of_priorities 0 0
+        ≡ record { meet = true; variables = false; streams = false; cancels = false } }
 {}
 
 /// An edge that is never taken counts all the same: it gives its priority, cancels, and reads. And a drawn delay gives the

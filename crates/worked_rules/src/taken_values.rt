@@ -41,11 +41,17 @@ pub fn variables_take_values()
 /// What an edge carries in time is taken too: where its condition can be true, under what that leaves; after a delay that is
 /// an expression, and after a drawn one.
 pub fn values_are_carried_in_time()
-    ensures after_a_delay { into_edge fed n_and_m (only_if (Binary Below (Scalar 0) (whole 5)) (record (schedule 1 (Scalar 0)) { values = Scalar 0 ∷ Scalar 1 ∷ [] }))
+    ensures after_a_delay { into_edge fed n_and_m
+        (only_if (Binary Below (Scalar 0) (whole 5))
+        (record (schedule 1 (Scalar 0)) { values = Scalar 0 ∷ Scalar 1 ∷ [] }))
         ≡ takes_in 3 (pos 0) (pos 4) ∷ takes_in 4 (neg_ℤ (pos 5)) (pos 7) ∷ [] }
-    ensures after_a_draw { into_edge fed n_and_m (only_if (Binary Above (Scalar 0) (whole 5)) (plain_edge (Schedule (Drawn 54 (ByTable 0)) 5) 1 (Scalar 0 ∷ whole 3 ∷ [])))
+    ensures after_a_draw { into_edge fed n_and_m
+        (only_if (Binary Above (Scalar 0) (whole 5))
+        (plain_edge (Schedule (Drawn 54 (ByTable 0)) 5) 1 (Scalar 0 ∷ whole 3 ∷ [])))
         ≡ takes_in 3 (pos 6) (pos 9) ∷ takes_in 4 (pos 3) (pos 3) ∷ [] }
-    ensures never { into_edge fed n_and_m (only_if (Binary Above (Scalar 0) (whole 9)) (record (schedule 1 (Scalar 0)) { values = Scalar 0 ∷ Scalar 1 ∷ [] })) ≡ [] }
+    ensures never { into_edge fed n_and_m
+        (only_if (Binary Above (Scalar 0) (whole 9))
+        (record (schedule 1 (Scalar 0)) { values = Scalar 0 ∷ Scalar 1 ∷ [] })) ≡ [] }
 {}
 
 /// A variable that clips keeps the nearest declared number at each end, and any other what lies in its declared range, if
@@ -53,16 +59,23 @@ pub fn values_are_carried_in_time()
 // inside; below, with an end inside, at the end, beyond; above likewise; on both sides.
 pub fn variables_keep_some()
     ensures clips { map (kept_range (clipped (bounded_by [] (pos 0) (pos 9)))) bounds_between
-        ≡ Some (span 3 5) ∷ Some (span 0 4) ∷ Some (span 0 0) ∷ Some (span 0 0) ∷ Some (span 4 9) ∷ Some (span 9 9) ∷ Some (span 9 9) ∷ Some (span 0 9) ∷ [] }
-    ensures clips_cells { map (kept_range (array 3 (clipped (bounded_by [] (pos 0) (pos 9))))) bounds_between
-        ≡ Some (span 3 5) ∷ Some (span 0 4) ∷ Some (span 0 0) ∷ Some (span 0 0) ∷ Some (span 4 9) ∷ Some (span 9 9) ∷ Some (span 9 9) ∷ Some (span 0 9) ∷ [] }
+        ≡ Some (span 3 5) ∷ Some (span 0 4) ∷ Some (span 0 0) ∷ Some (span 0 0) ∷ Some (span 4 9)
+        ∷ Some (span 9 9) ∷ Some (span 9 9) ∷ Some (span 0 9) ∷ [] }
+    ensures clips_cells { map
+        (kept_range (array 3 (clipped (bounded_by [] (pos 0) (pos 9))))) bounds_between
+        ≡ Some (span 3 5) ∷ Some (span 0 4) ∷ Some (span 0 0) ∷ Some (span 0 0) ∷ Some (span 4 9)
+        ∷ Some (span 9 9) ∷ Some (span 9 9) ∷ Some (span 0 9) ∷ [] }
     ensures keeps { map (kept_range (bounded_by [] (pos 0) (pos 9))) bounds_between
-        ≡ Some (span 3 5) ∷ Some (span 0 4) ∷ Some (span 0 0) ∷ None ∷ Some (span 4 9) ∷ Some (span 9 9) ∷ None ∷ Some (span 0 9) ∷ [] }
+        ≡ Some (span 3 5) ∷ Some (span 0 4) ∷ Some (span 0 0) ∷ None ∷ Some (span 4 9)
+        ∷ Some (span 9 9) ∷ None ∷ Some (span 0 9) ∷ [] }
 {}
 
 /// If there are fewer values than variables, or more, those are taken that are side by side.
 pub fn values_are_taken_side_by_side()
-    ensures fewer { assigned five_kinds (0 ∷ 1 ∷ []) (whole 3 ∷ []) ≡ takes_in 0 (pos 3) (pos 3) ∷ [] }
-    ensures more { assigned five_kinds (0 ∷ []) (whole 3 ∷ whole 4 ∷ []) ≡ takes_in 0 (pos 3) (pos 3) ∷ [] }
-    ensures both { assigned five_kinds (0 ∷ 1 ∷ []) (whole 3 ∷ whole 4 ∷ []) ≡ takes_in 0 (pos 3) (pos 3) ∷ takes_in 1 (pos 4) (pos 4) ∷ [] }
+    ensures fewer { assigned five_kinds (0 ∷ 1 ∷ []) (whole 3 ∷ [])
+        ≡ takes_in 0 (pos 3) (pos 3) ∷ [] }
+    ensures more { assigned five_kinds (0 ∷ []) (whole 3 ∷ whole 4 ∷ [])
+        ≡ takes_in 0 (pos 3) (pos 3) ∷ [] }
+    ensures both { assigned five_kinds (0 ∷ 1 ∷ []) (whole 3 ∷ whole 4 ∷ [])
+        ≡ takes_in 0 (pos 3) (pos 3) ∷ takes_in 1 (pos 4) (pos 4) ∷ [] }
 {}

@@ -15,10 +15,14 @@ ghost use Rattle.worked_rules.specs.Halves.{equal_at};
 // many there are; of a draw the variable, the index, the stream, both ends, and the table. Edges: the target, the value, how
 // many there are, the condition, the delay, the priority, the stream, the choice, and each kind.
 pub fn parts_are_equal_to_themselves()
-    ensures operators { map (λ p. equal_at same_operator p operators) operators ≡ map (λ k. k ∷ []) (range_with_len 0 15) }
-    ensures expressions { map (λ e. equal_at same_expression e expressions_apart) expressions_apart ≡ map (λ k. k ∷ []) (range_with_len 0 23) }
-    ensures changes { map (λ c. equal_at same_state_change c changes_apart) changes_apart ≡ map (λ k. k ∷ []) (range_with_len 0 15) }
-    ensures edges { map (λ e. equal_at same_event_edge e edges_apart) edges_apart ≡ map (λ k. k ∷ []) (range_with_len 0 14) }
+    ensures operators { map (λ p. equal_at same_operator p operators) operators
+        ≡ map (λ k. k ∷ []) (range_with_len 0 15) }
+    ensures expressions { map (λ e. equal_at same_expression e expressions_apart) expressions_apart
+        ≡ map (λ k. k ∷ []) (range_with_len 0 23) }
+    ensures changes { map (λ c. equal_at same_state_change c changes_apart) changes_apart
+        ≡ map (λ k. k ∷ []) (range_with_len 0 15) }
+    ensures edges { map (λ e. equal_at same_event_edge e edges_apart) edges_apart
+        ≡ map (λ k. k ∷ []) (range_with_len 0 14) }
 {}
 
 /// Models are equal in all their parts: each of these is equal to itself alone.
@@ -27,5 +31,6 @@ pub fn parts_are_equal_to_themselves()
 // watch list a vertex for a variable, the place of each, and how many; of a vertex the name, the parameters, a change, an
 // edge, and how many.
 pub fn graphs_are_equal_in_all_parts()
-    ensures { map (λ g. equal_at same_graph g graphs_apart) graphs_apart ≡ map (λ k. k ∷ []) (range_with_len 0 25) }
+    ensures { map (λ g. equal_at same_graph g graphs_apart) graphs_apart
+        ≡ map (λ k. k ∷ []) (range_with_len 0 25) }
 {}

@@ -26,19 +26,32 @@ pub fn each_half_of_fuse_fails_alone()
     ensures itself { first_failed (fuse_conditions two_that_take 1 1) ≡ Some 1 }
     ensures last_vertex { first_failed (fuse_conditions two_that_take 1 4) ≡ Some 2 }
     ensures no_vertex { first_failed (fuse_conditions two_that_take 1 5) ≡ Some 1 }
-    ensures keep_watched { first_failed (fuse_conditions (apart_twins (WatchedVertex 1 ∷ []) (0 ∷ 1 ∷ []) []) 1 3) ≡ Some 2 }
-    ensures gone_watched { first_failed (fuse_conditions (apart_twins (WatchedVariable 1 ∷ WatchedVertex 3 ∷ []) (0 ∷ 1 ∷ []) []) 1 3) ≡ Some 2 }
-    ensures keep_cancelled { map (λ kind. first_failed (fuse_conditions (cut_by_the_last (plain_edge kind 1 [])) 1 3)) (CancelNext ∷ CancelEqual ∷ CancelAll ∷ Urgent ∷ [])
+    ensures keep_watched { first_failed
+        (fuse_conditions (apart_twins (WatchedVertex 1 ∷ []) (0 ∷ 1 ∷ []) []) 1 3) ≡ Some 2 }
+    ensures gone_watched { first_failed
+        (fuse_conditions
+        (apart_twins (WatchedVariable 1 ∷ WatchedVertex 3 ∷ []) (0 ∷ 1 ∷ []) []) 1 3) ≡ Some 2 }
+    ensures keep_cancelled { map
+        (λ kind. first_failed (fuse_conditions (cut_by_the_last (plain_edge kind 1 [])) 1 3))
+        (CancelNext ∷ CancelEqual ∷ CancelAll ∷ Urgent ∷ [])
         ≡ Some 3 ∷ Some 3 ∷ Some 3 ∷ None ∷ [] }
-    ensures gone_cancelled { map (λ kind. first_failed (fuse_conditions (cut_by_the_last (plain_edge kind 3 [])) 1 3)) (CancelNext ∷ CancelEqual ∷ CancelAll ∷ Urgent ∷ [])
+    ensures gone_cancelled { map
+        (λ kind. first_failed (fuse_conditions (cut_by_the_last (plain_edge kind 3 [])) 1 3))
+        (CancelNext ∷ CancelEqual ∷ CancelAll ∷ Urgent ∷ [])
         ≡ Some 3 ∷ Some 3 ∷ Some 3 ∷ None ∷ [] }
-    ensures other_cancelled { map (λ kind. first_failed (fuse_conditions (cut_by_the_last (plain_edge kind 2 [])) 1 3)) (CancelNext ∷ CancelEqual ∷ CancelAll ∷ [])
+    ensures other_cancelled { map
+        (λ kind. first_failed (fuse_conditions (cut_by_the_last (plain_edge kind 2 [])) 1 3))
+        (CancelNext ∷ CancelEqual ∷ CancelAll ∷ [])
         ≡ None ∷ None ∷ None ∷ [] }
-    ensures parameters { map (λ parameters. first_failed (fuse_conditions (apart_twins last_and_mid parameters []) 1 3)) ((0 ∷ []) ∷ (0 ∷ 0 ∷ []) ∷ (1 ∷ 0 ∷ []) ∷ (0 ∷ 1 ∷ 1 ∷ []) ∷ [])
+    ensures parameters { map
+        (λ parameters. first_failed (fuse_conditions (apart_twins last_and_mid parameters []) 1 3))
+        ((0 ∷ []) ∷ (0 ∷ 0 ∷ []) ∷ (1 ∷ 0 ∷ []) ∷ (0 ∷ 1 ∷ 1 ∷ []) ∷ [])
         ≡ Some 4 ∷ Some 4 ∷ Some 4 ∷ Some 4 ∷ [] }
     ensures changes { first_failed (fuse_conditions two_pairs 1 2) ≡ Some 4 }
-    ensures other_edges { first_failed (fuse_conditions (apart_twins [] (0 ∷ 1 ∷ []) []) 2 4) ≡ Some 5 }
-    ensures edges_of_another { first_failed (fuse_conditions (cut_by_the_last (urgent 1)) 1 3) ≡ None }
+    ensures other_edges { first_failed (fuse_conditions (apart_twins [] (0 ∷ 1 ∷ []) []) 2 4)
+        ≡ Some 5 }
+    ensures edges_of_another { first_failed (fuse_conditions (cut_by_the_last (urgent 1)) 1 3)
+        ≡ None }
 {}
 
 /// Two vertices with each feature of the language are fused, and are not where one thing of one of them is another.
@@ -49,8 +62,14 @@ pub fn each_half_of_fuse_fails_alone()
 pub fn rich_vertices_are_fused_where_they_are_equal()
     ensures equal { first_failed (fuse_conditions (rich_twins rich_changes rich_edges) 1 2) ≡ None }
     ensures result { fused (rich_twins rich_changes rich_edges) 1 2 ≡ one_rich }
-    ensures changes { map (λ changes. first_failed (fuse_conditions (rich_twins changes rich_edges) 1 2)) changes_apart_by_one ≡ replicate 14 (Some 4) }
-    ensures edges { map (λ edges. first_failed (fuse_conditions (rich_twins rich_changes edges) 1 2)) edges_apart_by_one ≡ replicate 19 (Some 5) }
+    ensures changes { map
+        (λ changes. first_failed
+        (fuse_conditions (rich_twins changes rich_edges) 1 2)) changes_apart_by_one
+        ≡ replicate 14 (Some 4) }
+    ensures edges { map
+        (λ edges. first_failed
+        (fuse_conditions (rich_twins rich_changes edges) 1 2)) edges_apart_by_one
+        ≡ replicate 19 (Some 5) }
 {}
 
 /// Changes are the same one by one, as many and in order. Edges are too, where what names either vertex of the two names
@@ -59,11 +78,17 @@ pub fn rich_vertices_are_fused_where_they_are_equal()
 // fourth vertex; one less; another order; another priority.
 pub fn lists_are_the_same()
     ensures no_change { same_changes [] [] ≡ true }
-    ensures changes { map (λ changes. same_changes (set 0 (plus_one 0) ∷ set 1 (whole 2) ∷ []) changes)
-        ((set 0 (plus_one 0) ∷ set 1 (whole 2) ∷ []) ∷ (set 0 (plus_one 0) ∷ []) ∷ (set 0 (plus_one 0) ∷ set 1 (whole 2) ∷ set 1 (whole 2) ∷ []) ∷ (set 1 (whole 2) ∷ set 0 (plus_one 0) ∷ []) ∷ [])
+    ensures changes { map
+        (λ changes. same_changes (set 0 (plus_one 0) ∷ set 1 (whole 2) ∷ []) changes)
+        ((set 0 (plus_one 0) ∷ set 1 (whole 2) ∷ []) ∷ (set 0 (plus_one 0) ∷ [])
+        ∷ (set 0 (plus_one 0) ∷ set 1 (whole 2) ∷ set 1 (whole 2) ∷ [])
+        ∷ (set 1 (whole 2) ∷ set 0 (plus_one 0) ∷ []) ∷ [])
         ≡ true ∷ false ∷ false ∷ false ∷ [] }
     ensures edges { map (λ edges. same_edges_for 1 3 (to 1 ∷ to 3 ∷ to 2 ∷ []) edges)
-        ((to 1 ∷ to 1 ∷ to 2 ∷ []) ∷ (to 3 ∷ to 3 ∷ to 2 ∷ []) ∷ (to 3 ∷ to 1 ∷ to 2 ∷ []) ∷ (to 1 ∷ to 3 ∷ to 4 ∷ []) ∷ (to 1 ∷ to 3 ∷ to 1 ∷ []) ∷ (to 1 ∷ to 3 ∷ to 3 ∷ []) ∷ (to 1 ∷ to 3 ∷ []) ∷ (to 1 ∷ to 2 ∷ to 3 ∷ []) ∷ (to 1 ∷ to 3 ∷ plain_edge (Schedule (Fixed (whole 1)) 6) 2 [] ∷ []) ∷ [])
+        ((to 1 ∷ to 1 ∷ to 2 ∷ []) ∷ (to 3 ∷ to 3 ∷ to 2 ∷ []) ∷ (to 3 ∷ to 1 ∷ to 2 ∷ [])
+        ∷ (to 1 ∷ to 3 ∷ to 4 ∷ []) ∷ (to 1 ∷ to 3 ∷ to 1 ∷ []) ∷ (to 1 ∷ to 3 ∷ to 3 ∷ [])
+        ∷ (to 1 ∷ to 3 ∷ []) ∷ (to 1 ∷ to 2 ∷ to 3 ∷ [])
+        ∷ (to 1 ∷ to 3 ∷ plain_edge (Schedule (Fixed (whole 1)) 6) 2 [] ∷ []) ∷ [])
         ≡ true ∷ true ∷ true ∷ false ∷ false ∷ false ∷ false ∷ false ∷ false ∷ [] }
 {}
 

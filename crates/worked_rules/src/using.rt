@@ -13,7 +13,8 @@ ghost use Rattle.worked_rules.specs.UsingModels.{expressions, users_in_turn, usi
 // parts of an `if`; one variable twice.
 pub fn variables_occur_in_expressions()
     ensures { map variables_in expressions
-        ≡ [] ∷ [] ∷ [] ∷ (5 ∷ []) ∷ (6 ∷ 5 ∷ []) ∷ (5 ∷ []) ∷ (5 ∷ []) ∷ (5 ∷ 4 ∷ []) ∷ (5 ∷ 4 ∷ 3 ∷ []) ∷ (5 ∷ 5 ∷ []) ∷ [] }
+        ≡ [] ∷ [] ∷ [] ∷ (5 ∷ []) ∷ (6 ∷ 5 ∷ []) ∷ (5 ∷ []) ∷ (5 ∷ []) ∷ (5 ∷ 4 ∷ [])
+        ∷ (5 ∷ 4 ∷ 3 ∷ []) ∷ (5 ∷ 5 ∷ []) ∷ [] }
 {}
 
 /// Each way of using a variable.
@@ -52,8 +53,10 @@ pub fn variables_are_used_in_each_way()
 // no `set`, no other delay and no edge without one.
 pub fn streams_are_drawn_from()
     ensures streams { map vertex_streams users_in_turn
-        ≡ [] ∷ [] ∷ [] ∷ (54 ∷ []) ∷ (53 ∷ []) ∷ [] ∷ [] ∷ [] ∷ [] ∷ [] ∷ (52 ∷ 51 ∷ []) ∷ [] ∷ [] ∷ [] }
-    ensures delays { map has_drawn_delay (after_stream 52 ∷ after_delay (whole 1) ∷ urgent 0 ∷ []) ≡ true ∷ false ∷ false ∷ [] }
+        ≡ [] ∷ [] ∷ [] ∷ (54 ∷ []) ∷ (53 ∷ []) ∷ [] ∷ [] ∷ [] ∷ [] ∷ []
+        ∷ (52 ∷ 51 ∷ []) ∷ [] ∷ [] ∷ [] }
+    ensures delays { map has_drawn_delay (after_stream 52 ∷ after_delay (whole 1) ∷ urgent 0 ∷ [])
+        ≡ true ∷ false ∷ false ∷ [] }
 {}
 
 /// A part moves the number of each variable that it has by one, once however often the variable occurs in it.
@@ -66,7 +69,8 @@ pub fn numbers_are_moved()
     ensures none { raised_at [] (5 ∷ 6 ∷ []) ≡ 5 ∷ 6 ∷ [] }
     ensures at_first { no_numbers 2 ≡ record { readers = 0 ∷ 0 ∷ []; setters = 0 ∷ 0 ∷ [] } }
     ensures of_no_variable { no_numbers 0 ≡ record { readers = []; setters = [] } }
-    ensures back { lowered_at (1 ∷ []) (raised_at (1 ∷ []) (no_numbers 2).setters) ≡ (no_numbers 2).setters }
+    ensures back { lowered_at (1 ∷ []) (raised_at (1 ∷ []) (no_numbers 2).setters)
+        ≡ (no_numbers 2).setters }
 {}
 
 /// A number can be raised below 2 ^ 32 and lowered above 0. Numbers that don't move may be any.

@@ -15,5 +15,6 @@ pub fn steps_may_be_fewer()
 
 /// Events that are due after the last stop time make no difference.
 pub fn later_events_are_unseen()
-    ensures { (one other : ℕ) → 2 ^ 48 < one → 2 ^ 48 < other → Same (due_after one) (due_after other) }
+    ensures { (one other : ℕ) → 2 ^ 48 < one → 2 ^ 48 < other
+        → Same (due_after one) (due_after other) }
 {}

@@ -21,7 +21,8 @@ pub fn ends_tell_apart()
 
 /// Runs that show other notes are distinguished, also where they go on for ever.
 pub fn notes_tell_apart()
-    ensures another_value { Apart (changing (set 0 (whole 2) ∷ [])) (changing (set 0 (whole 3) ∷ [])) }
+    ensures another_value { Apart (changing (set 0 (whole 2) ∷ []))
+        (changing (set 0 (whole 3) ∷ [])) }
     ensures another_order { Apart
         (ordering (schedule 1 (whole 2) ∷ schedule 2 (whole 2) ∷ []))
         (ordering (schedule 2 (whole 2) ∷ schedule 1 (whole 2) ∷ [])) }
@@ -49,9 +50,12 @@ pub fn declarations_tell_apart()
     ensures one_more_watched { Apart
         (watching_two (WatchedVariable 0 ∷ []))
         (watching_two (WatchedVariable 0 ∷ WatchedVariable 1 ∷ [])) }
-    ensures name_of_a_parameter { Apart (asking (ranged (codes "X") 0 9 0)) (asking (ranged (codes "Y") 0 9 0)) }
-    ensures least_of_a_parameter { Apart (asking (ranged (codes "X") 0 9 1)) (asking (ranged (codes "X") 1 9 1)) }
-    ensures greatest_of_a_parameter { Apart (asking (ranged (codes "X") 0 9 0)) (asking (ranged (codes "X") 0 8 0)) }
+    ensures name_of_a_parameter { Apart (asking (ranged (codes "X") 0 9 0))
+        (asking (ranged (codes "Y") 0 9 0)) }
+    ensures least_of_a_parameter { Apart (asking (ranged (codes "X") 0 9 1))
+        (asking (ranged (codes "X") 1 9 1)) }
+    ensures greatest_of_a_parameter { Apart (asking (ranged (codes "X") 0 9 0))
+        (asking (ranged (codes "X") 0 8 0)) }
 {}
 
 /// One run is enough, also at the last stop time, with the first or the last seed, or with a value at the end of a
@@ -59,8 +63,10 @@ pub fn declarations_tell_apart()
 #[tactic(auto, unfolding(rand_pcg::specs::Lcg::state_after))]
 pub fn one_run_tells_apart()
     ensures last_stop_time { Apart (due_after (2 ^ 48)) (due_after (2 ^ 48 + 1)) }
-    ensures first_seed { Apart (drawing (equals_x_and_y 1203932051 3113183783)) (drawing (Truth false)) }
-    ensures last_seed { Apart (drawing (equals_x_and_y 290611831 3872925298)) (drawing (Truth false)) }
+    ensures first_seed { Apart (drawing (equals_x_and_y 1203932051 3113183783))
+        (drawing (Truth false)) }
+    ensures last_seed { Apart (drawing (equals_x_and_y 290611831 3872925298))
+        (drawing (Truth false)) }
     ensures least_start { Apart (taking_x (equals_x 0)) (taking_x (Truth false)) }
     ensures greatest_start { Apart (taking_x (equals_x 9)) (taking_x (Truth false)) }
 {}

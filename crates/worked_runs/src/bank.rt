@@ -15,7 +15,9 @@ pub fn bank_serves()
         ∷ At 14 (scalars (1 ∷ 0 ∷ [])) ∷ At 16 (scalars (2 ∷ 0 ∷ [])) ∷ []) Stopped }
     ensures goes_on_after_10_steps { look bank 42 (pos 1 ∷ []) 16 10
         ≡ showing
-        (At 0 (scalars (0 ∷ 0 ∷ [])) ∷ At 4 (scalars (1 ∷ 0 ∷ [])) ∷ At 12 (scalars (2 ∷ 0 ∷ [])) ∷ [])
+        (At 0 (scalars (0 ∷ 0 ∷ [])) ∷ At 4 (scalars (1 ∷ 0 ∷ []))
+        ∷ At 12 (scalars (2 ∷ 0 ∷ [])) ∷ [])
         Going }
-    ensures smaller_one_needs_10_steps { look smaller_bank 42 (pos 1 ∷ []) 16 10 ≡ look bank 42 (pos 1 ∷ []) 16 11 }
+    ensures smaller_one_needs_10_steps { look smaller_bank 42 (pos 1 ∷ []) 16 10
+        ≡ look bank 42 (pos 1 ∷ []) 16 11 }
 {}

@@ -16,44 +16,64 @@ pub fn ranges_are_declared()
     ensures clock { seen_bounds Clock ≡ numbers_in (pos 0) (pos 281474976710656) }
     ensures scalar { seen_bounds x ≡ numbers_in (pos 0) (pos 3) }
     ensures truth_value { seen_bounds b ≡ either_truth }
-    ensures cell { seen_bounds (Cell 4 (Binary Least x (whole 2))) ≡ numbers_in (neg_ℤ (pos 1)) (pos 9) }
+    ensures cell { seen_bounds (Cell 4 (Binary Least x (whole 2)))
+        ≡ numbers_in (neg_ℤ (pos 1)) (pos 9) }
     ensures cell_beyond { seen_bounds (Cell 4 x) ≡ perhaps_in (neg_ℤ (pos 1)) (pos 9) }
     ensures cell_below { seen_bounds (Cell 4 (minus 1)) ≡ perhaps_in (neg_ℤ (pos 1)) (pos 9) }
     ensures cell_of_truths { seen_bounds (Cell 5 (whole 1)) ≡ either_truth }
-    ensures index_may_fault { seen_bounds (Cell 5 (Binary Remainder (whole 1) x)) ≡ truth_bounds true true false }
+    ensures index_may_fault { seen_bounds (Cell 5 (Binary Remainder (whole 1) x))
+        ≡ truth_bounds true true false }
 {}
 
 /// Sums, differences and products are exact, and an end outside 64 bits is moved to the nearest number.
 pub fn ends_are_exact_or_moved()
     ensures negative { seen_bounds (Negative y) ≡ numbers_in (neg_ℤ (pos 7)) (pos 5) }
-    ensures negative_of_the_least { seen_bounds (Negative least_number) ≡ perhaps_in (pos 9223372036854775807) (pos 9223372036854775807) }
+    ensures negative_of_the_least { seen_bounds (Negative least_number)
+        ≡ perhaps_in (pos 9223372036854775807) (pos 9223372036854775807) }
     ensures sum { seen_bounds (Binary Add x y) ≡ numbers_in (neg_ℤ (pos 5)) (pos 10) }
-    ensures sum_moved { seen_bounds (Binary Add l l) ≡ perhaps_in (neg_ℤ (pos 9223372036854775808)) (pos 9223372036854775807) }
+    ensures sum_moved { seen_bounds (Binary Add l l)
+        ≡ perhaps_in (neg_ℤ (pos 9223372036854775808)) (pos 9223372036854775807) }
     ensures difference { seen_bounds (Binary Subtract x y) ≡ numbers_in (neg_ℤ (pos 7)) (pos 8) }
-    ensures difference_moved { seen_bounds (Binary Subtract l l) ≡ perhaps_in (neg_ℤ (pos 9223372036854775808)) (pos 9223372036854775807) }
+    ensures difference_moved { seen_bounds (Binary Subtract l l)
+        ≡ perhaps_in (neg_ℤ (pos 9223372036854775808)) (pos 9223372036854775807) }
     ensures product { seen_bounds (Binary Multiply y y) ≡ numbers_in (neg_ℤ (pos 35)) (pos 49) }
-    ensures product_of_two { seen_bounds (Binary Multiply x y) ≡ numbers_in (neg_ℤ (pos 15)) (pos 21) }
-    ensures product_moved { seen_bounds (Binary Multiply l l) ≡ perhaps_in (neg_ℤ (pos 9223372036854775808)) (pos 9223372036854775807) }
-    ensures least_product { seen_bounds (Binary Multiply (Binary Least l (whole 0)) (whole 2)) ≡ numbers_in (neg_ℤ (pos 9223372036854775808)) (pos 0) }
-    ensures of_what_may_fault { seen_bounds (Binary Add x (Binary Divide (whole 5) x)) ≡ perhaps_in (neg_ℤ (pos 5)) (pos 8) }
+    ensures product_of_two { seen_bounds (Binary Multiply x y)
+        ≡ numbers_in (neg_ℤ (pos 15)) (pos 21) }
+    ensures product_moved { seen_bounds (Binary Multiply l l)
+        ≡ perhaps_in (neg_ℤ (pos 9223372036854775808)) (pos 9223372036854775807) }
+    ensures least_product { seen_bounds (Binary Multiply (Binary Least l (whole 0)) (whole 2))
+        ≡ numbers_in (neg_ℤ (pos 9223372036854775808)) (pos 0) }
+    ensures of_what_may_fault { seen_bounds (Binary Add x (Binary Divide (whole 5) x))
+        ≡ perhaps_in (neg_ℤ (pos 5)) (pos 8) }
     ensures least { seen_bounds (Binary Least x y) ≡ numbers_in (neg_ℤ (pos 5)) (pos 3) }
     ensures greatest { seen_bounds (Binary Greatest x y) ≡ numbers_in (pos 0) (pos 7) }
 {}
 
 /// A quotient or remainder by a range that holds 0 may be a fault.
 pub fn divisors_may_be_zero()
-    ensures quotient { seen_bounds (Binary Divide y (whole 2)) ≡ numbers_in (neg_ℤ (pos 2)) (pos 3) }
-    ensures quotient_by_a_negative { seen_bounds (Binary Divide y (minus 2)) ≡ numbers_in (neg_ℤ (pos 3)) (pos 2) }
-    ensures quotient_by_zero { seen_bounds (Binary Divide (whole 5) x) ≡ perhaps_in (neg_ℤ (pos 5)) (pos 5) }
+    ensures quotient { seen_bounds (Binary Divide y (whole 2))
+        ≡ numbers_in (neg_ℤ (pos 2)) (pos 3) }
+    ensures quotient_by_a_negative { seen_bounds (Binary Divide y (minus 2))
+        ≡ numbers_in (neg_ℤ (pos 3)) (pos 2) }
+    ensures quotient_by_zero { seen_bounds (Binary Divide (whole 5) x)
+        ≡ perhaps_in (neg_ℤ (pos 5)) (pos 5) }
     ensures greater_side { seen_bounds (Binary Divide y x) ≡ perhaps_in (neg_ℤ (pos 7)) (pos 7) }
-    ensures quotient_outside { seen_bounds (Binary Divide least_number (minus 1)) ≡ perhaps_in (pos 9223372036854775807) (pos 9223372036854775807) }
-    ensures least_by_zero { seen_bounds (Binary Divide least_number x) ≡ perhaps_in (neg_ℤ (pos 9223372036854775808)) (pos 9223372036854775807) }
-    ensures remainder { seen_bounds (Binary Remainder y (whole 4)) ≡ numbers_in (neg_ℤ (pos 3)) (pos 3) }
-    ensures remainder_of_few { seen_bounds (Binary Remainder x (whole 9)) ≡ numbers_in (pos 0) (pos 3) }
-    ensures remainder_by_minus_1 { seen_bounds (Binary Remainder y (minus 1)) ≡ numbers_in (pos 0) (pos 0) }
-    ensures least_by_minus_1 { seen_bounds (Binary Remainder least_number (minus 1)) ≡ numbers_in (pos 0) (pos 0) }
-    ensures remainder_by_the_least { seen_bounds (Binary Remainder y least_number) ≡ numbers_in (neg_ℤ (pos 5)) (pos 7) }
-    ensures remainder_by_zero { seen_bounds (Binary Remainder y x) ≡ perhaps_in (neg_ℤ (pos 2)) (pos 2) }
+    ensures quotient_outside { seen_bounds (Binary Divide least_number (minus 1))
+        ≡ perhaps_in (pos 9223372036854775807) (pos 9223372036854775807) }
+    ensures least_by_zero { seen_bounds (Binary Divide least_number x)
+        ≡ perhaps_in (neg_ℤ (pos 9223372036854775808)) (pos 9223372036854775807) }
+    ensures remainder { seen_bounds (Binary Remainder y (whole 4))
+        ≡ numbers_in (neg_ℤ (pos 3)) (pos 3) }
+    ensures remainder_of_few { seen_bounds (Binary Remainder x (whole 9))
+        ≡ numbers_in (pos 0) (pos 3) }
+    ensures remainder_by_minus_1 { seen_bounds (Binary Remainder y (minus 1))
+        ≡ numbers_in (pos 0) (pos 0) }
+    ensures least_by_minus_1 { seen_bounds (Binary Remainder least_number (minus 1))
+        ≡ numbers_in (pos 0) (pos 0) }
+    ensures remainder_by_the_least { seen_bounds (Binary Remainder y least_number)
+        ≡ numbers_in (neg_ℤ (pos 5)) (pos 7) }
+    ensures remainder_by_zero { seen_bounds (Binary Remainder y x)
+        ≡ perhaps_in (neg_ℤ (pos 2)) (pos 2) }
 {}
 
 /// A comparison can be true where one pair of values makes it true, and false where one makes it false.
@@ -73,8 +93,10 @@ pub fn comparisons_go_by_ends()
     ensures always_different { seen_bounds (Binary NotEqual x (whole 4)) ≡ only_true }
     ensures truths_perhaps_equal { seen_bounds (Binary Equal b (Truth true)) ≡ either_truth }
     ensures truths_equal { seen_bounds (Binary Equal (Truth false) (Truth false)) ≡ only_true }
-    ensures truths_never_equal { seen_bounds (Binary Equal (Truth true) (Truth false)) ≡ only_false }
-    ensures truths_different { seen_bounds (Binary NotEqual (Truth true) (Truth false)) ≡ only_true }
+    ensures truths_never_equal { seen_bounds (Binary Equal (Truth true) (Truth false))
+        ≡ only_false }
+    ensures truths_different { seen_bounds (Binary NotEqual (Truth true) (Truth false))
+        ≡ only_true }
 {}
 
 /// A part that is never evaluated counts for nothing.
@@ -85,21 +107,28 @@ pub fn branches_not_taken_count_for_nothing()
     ensures and_fault { seen_bounds (Binary And b over_x_is_1) ≡ truth_bounds true true false }
     ensures or { seen_bounds (Binary Or b (Truth true)) ≡ only_true }
     ensures or_true { seen_bounds (Binary Or (Truth true) over_x_is_1) ≡ only_true }
-    ensures or_fault { seen_bounds (Binary Or (Truth false) over_x_is_1) ≡ truth_bounds true true false }
+    ensures or_fault { seen_bounds (Binary Or (Truth false) over_x_is_1)
+        ≡ truth_bounds true true false }
     ensures both_branches { seen_bounds (If b x y) ≡ numbers_in (neg_ℤ (pos 5)) (pos 7) }
     ensures both_truths { seen_bounds (If b (Truth true) (Truth false)) ≡ either_truth }
-    ensures first_branch { seen_bounds (If (Truth true) x (Binary Divide (whole 9) x)) ≡ numbers_in (pos 0) (pos 3) }
-    ensures second_branch { seen_bounds (If (Truth false) (Binary Divide (whole 9) x) y) ≡ numbers_in (neg_ℤ (pos 5)) (pos 7) }
-    ensures branch_may_fault { seen_bounds (If b x (Binary Divide (whole 5) x)) ≡ perhaps_in (neg_ℤ (pos 5)) (pos 5) }
-    ensures condition_may_fault { seen_bounds (If over_x_is_1 (whole 2) (whole 3)) ≡ perhaps_in (pos 2) (pos 3) }
+    ensures first_branch { seen_bounds (If (Truth true) x (Binary Divide (whole 9) x))
+        ≡ numbers_in (pos 0) (pos 3) }
+    ensures second_branch { seen_bounds (If (Truth false) (Binary Divide (whole 9) x) y)
+        ≡ numbers_in (neg_ℤ (pos 5)) (pos 7) }
+    ensures branch_may_fault { seen_bounds (If b x (Binary Divide (whole 5) x))
+        ≡ perhaps_in (neg_ℤ (pos 5)) (pos 5) }
+    ensures condition_may_fault { seen_bounds (If over_x_is_1 (whole 2) (whole 3))
+        ≡ perhaps_in (pos 2) (pos 3) }
 {}
 
 /// A condition that may fault is neither refuted nor proved.
 pub fn conditions_are_refuted_or_proved()
     ensures refuted { refuted (seen_bounds (Binary Above x (whole 3))) ≡ true }
     ensures not_refuted { refuted (seen_bounds (Binary Above x (whole 2))) ≡ false }
-    ensures fault_is_not_refuted { refuted (seen_bounds (Binary Above (Binary Divide (whole 5) x) (whole 9))) ≡ false }
+    ensures fault_is_not_refuted { refuted
+        (seen_bounds (Binary Above (Binary Divide (whole 5) x) (whole 9))) ≡ false }
     ensures proved { proved (seen_bounds (Binary AtMost x (whole 3))) ≡ true }
     ensures not_proved { proved (seen_bounds (Binary AtMost x (whole 2))) ≡ false }
-    ensures fault_is_not_proved { proved (seen_bounds (Binary AtMost (Binary Divide (whole 5) x) (whole 9))) ≡ false }
+    ensures fault_is_not_proved { proved
+        (seen_bounds (Binary AtMost (Binary Divide (whole 5) x) (whole 9))) ≡ false }
 {}

@@ -12,10 +12,15 @@ use static_laws::accepted_or_one_fault;
 /// A certificate spells its applications, and a number too large for an edge is none's.
 pub fn certificates_are_spelled()
     ensures none { IsSpelled certificate_format (codes "certificate end") [] }
-    ensures each { IsSpelled certificate_format (codes "certificate prune RUN 1 settle A 02 drop B C merge RUN A slice X end # so")
-        (Prune (codes "RUN") 1 ∷ Settle (codes "A") 2 ∷ Drop (codes "B" ∷ codes "C" ∷ []) ∷ Merge (codes "RUN") (codes "A") ∷ Slice (codes "X" ∷ []) ∷ []) }
-    ensures largest { IsSpelled certificate_format (codes "certificate prune A 9223372036854775807 end") (Prune (codes "A") 9223372036854775807 ∷ []) }
-    ensures too_large { IsSpelled certificate_format (codes "certificate prune A 9223372036854775808 end") (Prune (codes "A") 0 ∷ []) }
+    ensures each { IsSpelled certificate_format
+        (codes "certificate prune RUN 1 settle A 02 drop B C merge RUN A slice X end # so")
+        (Prune (codes "RUN") 1 ∷ Settle (codes "A") 2 ∷ Drop (codes "B" ∷ codes "C" ∷ [])
+        ∷ Merge (codes "RUN") (codes "A") ∷ Slice (codes "X" ∷ []) ∷ []) }
+    ensures largest { IsSpelled certificate_format
+        (codes "certificate prune A 9223372036854775807 end")
+        (Prune (codes "A") 9223372036854775807 ∷ []) }
+    ensures too_large { IsSpelled certificate_format
+        (codes "certificate prune A 9223372036854775808 end") (Prune (codes "A") 0 ∷ []) }
 {}
 
 /// A text that is no certificate is refused at the first token that can't be there, or at its end.

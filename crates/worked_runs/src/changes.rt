@@ -13,13 +13,18 @@ ghost use Rattle.worked_runs.specs.Models.{changing, two_draws, two_rows, cells,
 /// Each draw takes the next word of its own stream.
 #[tactic(auto, unfolding(rand_pcg::specs::Lcg::state_after))]
 pub fn variables_are_drawn()
-    ensures second_of_one_stream { look (two_draws 54) 42 [] 100 1000 ≡ showing (At 0 (scalars (3 ∷ [])) ∷ []) (Ended 0) }
-    ensures first_of_another_stream { look (two_draws 53) 42 [] 100 1000 ≡ showing (At 0 (scalars (4 ∷ [])) ∷ []) (Ended 0) }
-    ensures second_of_the_last_stream { look (changing (draw 0 63 1 6 ∷ draw 0 63 1 6 ∷ [])) 42 [] 100 1000
-        ≡ showing (At 0 (scalars (6 ∷ [])) ∷ []) (Ended 0) }
-    ensures second_behind_a_set { look (changing (draw 1 54 1 6 ∷ set 1 (whole 2) ∷ draw 0 54 1 6 ∷ [])) 42 [] 100 1000
+    ensures second_of_one_stream { look (two_draws 54) 42 [] 100 1000
         ≡ showing (At 0 (scalars (3 ∷ [])) ∷ []) (Ended 0) }
-    ensures by_weights { look two_rows 42 [] 100 1000 ≡ showing (At 0 (scalars (3 ∷ 2 ∷ [])) ∷ []) (Ended 0) }
+    ensures first_of_another_stream { look (two_draws 53) 42 [] 100 1000
+        ≡ showing (At 0 (scalars (4 ∷ [])) ∷ []) (Ended 0) }
+    ensures second_of_the_last_stream { look
+        (changing (draw 0 63 1 6 ∷ draw 0 63 1 6 ∷ [])) 42 [] 100 1000
+        ≡ showing (At 0 (scalars (6 ∷ [])) ∷ []) (Ended 0) }
+    ensures second_behind_a_set { look
+        (changing (draw 1 54 1 6 ∷ set 1 (whole 2) ∷ draw 0 54 1 6 ∷ [])) 42 [] 100 1000
+        ≡ showing (At 0 (scalars (3 ∷ [])) ∷ []) (Ended 0) }
+    ensures by_weights { look two_rows 42 [] 100 1000
+        ≡ showing (At 0 (scalars (3 ∷ 2 ∷ [])) ∷ []) (Ended 0) }
 {}
 
 /// A store at either end of the range stays, and one beyond is a fault, or under `clip` the nearest bound.
@@ -37,11 +42,15 @@ pub fn stores_keep_to_ranges()
 pub fn parameters_come_first()
     ensures changes_see_them { look (doubling (ranged (codes "X") 0 9 0)) 42 (pos 4 ∷ []) 100 1000
         ≡ showing (At 0 (scalars (8 ∷ [])) ∷ []) (Ended 0) }
-    ensures clipped_from_above { look (doubling (clipped (ranged (codes "X") 1 6 1))) 42 (pos 4 ∷ []) 100 1000
+    ensures clipped_from_above { look (doubling (clipped (ranged (codes "X") 1 6 1))) 42
+        (pos 4 ∷ []) 100 1000
         ≡ showing (At 0 (scalars (6 ∷ [])) ∷ []) (Ended 0) }
-    ensures clipped_from_below { look (lowering (clipped (ranged (codes "X") 1 6 1))) 42 (pos 4 ∷ []) 100 1000
+    ensures clipped_from_below { look (lowering (clipped (ranged (codes "X") 1 6 1))) 42
+        (pos 4 ∷ []) 100 1000
         ≡ showing (At 0 (scalars (1 ∷ [])) ∷ []) (Ended 0) }
-    ensures one_for_each { look (taking_two (ranged (codes "X") 0 9 0) (clipped (ranged (codes "Y") 0 9 0)) []) 42 (pos 4 ∷ pos 10 ∷ []) 100 1000
+    ensures one_for_each { look
+        (taking_two (ranged (codes "X") 0 9 0) (clipped (ranged (codes "Y") 0 9 0)) []) 42
+        (pos 4 ∷ pos 10 ∷ []) 100 1000
         ≡ showing (At 0 (scalars (9 ∷ 4 ∷ [])) ∷ []) (Ended 0) }
 {}
 
@@ -50,24 +59,36 @@ pub fn cells_are_set()
     ensures index_on_the_state_before { look (cells (index_and_cell ∷ [])) 42 [] 100 1000
         ≡ showing (At 0 ((pos 1 ∷ []) ∷ (pos 7 ∷ pos 0 ∷ []) ∷ []) ∷ []) (Ended 0) }
     ensures stores_from_left_to_right { look
-        (cells (Set (at_cell 1 (whole 0) ∷ at_cell 1 (whole 0) ∷ []) (whole 1 ∷ whole 2 ∷ []) ∷ [])) 42 [] 100 1000
+        (cells (Set (at_cell 1 (whole 0) ∷ at_cell 1 (whole 0) ∷ [])
+        (whole 1 ∷ whole 2 ∷ []) ∷ [])) 42 [] 100 1000
         ≡ showing (At 0 ((pos 0 ∷ []) ∷ (pos 2 ∷ pos 0 ∷ []) ∷ []) ∷ []) (Ended 0) }
     ensures values_from_left_to_right { look
-        (cells (Set (at_variable 0 ∷ at_cell 1 (whole 0) ∷ []) (one_over_zero ∷ Cell 1 (whole 2) ∷ []) ∷ [])) 42 [] 100 1000
+        (cells (Set (at_variable 0 ∷ at_cell 1 (whole 0) ∷ [])
+        (one_over_zero ∷ Cell 1 (whole 2) ∷ []) ∷ [])) 42 [] 100 1000
         ≡ showing [] (Faulted 0 faults.DivisionByZero) }
-    ensures values_before_indexes { look (cells (bad_index_and_value ∷ [])) 42 [] 100 1000 ≡ showing [] (Faulted 0 faults.DivisionByZero) }
-    ensures indexes_from_left_to_right { look (cells (bad_indexes one_over_zero (whole 2) ∷ [])) 42 [] 100 1000 ≡ showing [] (Faulted 0 faults.DivisionByZero) }
-    ensures the_other_way_round { look (cells (bad_indexes (whole 2) one_over_zero ∷ [])) 42 [] 100 1000 ≡ showing [] (Faulted 0 faults.IndexOutside) }
-    ensures indexes_before_stores { look (cells (Set (at_variable 0 ∷ at_cell 1 (whole 2) ∷ []) (whole 10 ∷ whole 1 ∷ []) ∷ [])) 42 [] 100 1000
+    ensures values_before_indexes { look (cells (bad_index_and_value ∷ [])) 42 [] 100 1000
+        ≡ showing [] (Faulted 0 faults.DivisionByZero) }
+    ensures indexes_from_left_to_right { look
+        (cells (bad_indexes one_over_zero (whole 2) ∷ [])) 42 [] 100 1000
+        ≡ showing [] (Faulted 0 faults.DivisionByZero) }
+    ensures the_other_way_round { look
+        (cells (bad_indexes (whole 2) one_over_zero ∷ [])) 42 [] 100 1000
+        ≡ showing [] (Faulted 0 faults.IndexOutside) }
+    ensures indexes_before_stores { look
+        (cells (Set (at_variable 0 ∷ at_cell 1 (whole 2) ∷ [])
+        (whole 10 ∷ whole 1 ∷ []) ∷ [])) 42 [] 100 1000
         ≡ showing [] (Faulted 0 faults.IndexOutside) }
 {}
 
 /// A draw finds its cell on the state that the changes before it left, at the clock of the event.
 #[tactic(auto, unfolding(rand_pcg::specs::Lcg::state_after))]
 pub fn cells_are_drawn()
-    ensures behind_a_set { look (cells (set 0 (whole 1) ∷ draw_cell 1 (Scalar 0) ∷ [])) 42 [] 100 1000
+    ensures behind_a_set { look
+        (cells (set 0 (whole 1) ∷ draw_cell 1 (Scalar 0) ∷ [])) 42 [] 100 1000
         ≡ showing (At 0 ((pos 1 ∷ []) ∷ (pos 0 ∷ pos 4 ∷ []) ∷ []) ∷ []) (Ended 0) }
-    ensures at_its_clock { look (at_two (draw_cell 1 Clock ∷ set 0 (Cell 1 (whole 2)) ∷ []) []) 42 [] 100 1000
+    ensures at_its_clock { look
+        (at_two (draw_cell 1 Clock ∷ set 0 (Cell 1 (whole 2)) ∷ []) []) 42 [] 100 1000
         ≡ showing (At 0 (scalars (0 ∷ [])) ∷ At 2 (scalars (4 ∷ [])) ∷ []) (Ended 2) }
-    ensures outside_its_range { look (cells (draw 0 54 10 12 ∷ [])) 42 [] 100 1000 ≡ showing [] (Faulted 0 faults.RangeOutside) }
+    ensures outside_its_range { look (cells (draw 0 54 10 12 ∷ [])) 42 [] 100 1000
+        ≡ showing [] (Faulted 0 faults.RangeOutside) }
 {}

@@ -22,5 +22,7 @@ pub fn conflicts_have_texts()
         ≡ codes "RUN RUN cancels\n"
         ++ codes "RUN B cancels\n"
         ++ codes "B B variables\n" }
-    ensures of_none { conflict_text (ordering (plain_edge (Schedule (Fixed (whole 2)) 7) 1 [] ∷ schedule 2 (whole 2) ∷ [])) ≡ [] }
+    ensures of_none { conflict_text
+        (ordering (plain_edge (Schedule (Fixed (whole 2)) 7) 1 [] ∷ schedule 2 (whole 2) ∷ []))
+        ≡ [] }
 {}

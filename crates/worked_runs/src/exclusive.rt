@@ -25,14 +25,24 @@ pub fn refuted_ones_are_exclusive()
 
 /// Comparisons of the same with numbers are exclusive where no whole number meets both.
 pub fn comparisons_may_be_exclusive()
-    ensures two_numbers { exclusive bounded (Binary Equal y (whole 1)) (Binary Equal y (whole 2)) ≡ true }
-    ensures below_and_at_least { exclusive bounded (Binary Below y (whole 1)) (Binary AtLeast y (whole 1)) ≡ true }
-    ensures at_one_number { exclusive bounded (Binary AtMost y (whole 1)) (Binary AtLeast y (whole 1)) ≡ false }
-    ensures nothing_between { exclusive bounded (Binary Above y (whole 1)) (Binary Below y (whole 2)) ≡ true }
-    ensures one_between { exclusive bounded (Binary Above y (whole 1)) (Binary Below y (whole 3)) ≡ false }
-    ensures equal_and_not { exclusive bounded (Binary Equal y (minus 2)) (Binary NotEqual y (minus 2)) ≡ true }
-    ensures two_unequal { exclusive bounded (Binary NotEqual y (whole 1)) (Binary NotEqual y (whole 2)) ≡ false }
-    ensures far_apart { exclusive bounded (Binary Below y (minus 2)) (Binary Above y (whole 2)) ≡ true }
-    ensures of_another { exclusive bounded (Binary Below x (whole 1)) (Binary AtLeast y (whole 1)) ≡ false }
-    ensures number_first { exclusive bounded (Binary Below (whole 1) y) (Binary Below y (whole 1)) ≡ false }
+    ensures two_numbers { exclusive bounded (Binary Equal y (whole 1)) (Binary Equal y (whole 2))
+        ≡ true }
+    ensures below_and_at_least { exclusive bounded (Binary Below y (whole 1))
+        (Binary AtLeast y (whole 1)) ≡ true }
+    ensures at_one_number { exclusive bounded (Binary AtMost y (whole 1))
+        (Binary AtLeast y (whole 1)) ≡ false }
+    ensures nothing_between { exclusive bounded (Binary Above y (whole 1))
+        (Binary Below y (whole 2)) ≡ true }
+    ensures one_between { exclusive bounded (Binary Above y (whole 1)) (Binary Below y (whole 3))
+        ≡ false }
+    ensures equal_and_not { exclusive bounded (Binary Equal y (minus 2))
+        (Binary NotEqual y (minus 2)) ≡ true }
+    ensures two_unequal { exclusive bounded (Binary NotEqual y (whole 1))
+        (Binary NotEqual y (whole 2)) ≡ false }
+    ensures far_apart { exclusive bounded (Binary Below y (minus 2)) (Binary Above y (whole 2))
+        ≡ true }
+    ensures of_another { exclusive bounded (Binary Below x (whole 1)) (Binary AtLeast y (whole 1))
+        ≡ false }
+    ensures number_first { exclusive bounded (Binary Below (whole 1) y) (Binary Below y (whole 1))
+        ≡ false }
 {}

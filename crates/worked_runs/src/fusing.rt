@@ -17,8 +17,10 @@ pub fn fuse_has_conditions()
     ensures backwards { first_failed (fuse_conditions twins 2 1) ≡ Some 1 }
     ensures itself { first_failed (fuse_conditions twins 1 1) ≡ Some 1 }
     ensures no_vertex { first_failed (fuse_conditions twins 1 3) ≡ Some 1 }
-    ensures watched { first_failed (fuse_conditions (twins_with (WatchedVariable 0 ∷ WatchedVertex 1 ∷ []) []) 1 2) ≡ Some 2 }
-    ensures cancelled { first_failed (fuse_conditions (twins_with x_watched (plain_edge CancelNext 2 [] ∷ [])) 1 2) ≡ Some 3 }
+    ensures watched { first_failed
+        (fuse_conditions (twins_with (WatchedVariable 0 ∷ WatchedVertex 1 ∷ []) []) 1 2) ≡ Some 2 }
+    ensures cancelled { first_failed
+        (fuse_conditions (twins_with x_watched (plain_edge CancelNext 2 [] ∷ [])) 1 2) ≡ Some 3 }
     ensures other_changes { first_failed (fuse_conditions twins 0 1) ≡ Some 4 }
     ensures other_edges { first_failed (fuse_conditions unlike 1 2) ≡ Some 5 }
 {}
@@ -29,8 +31,10 @@ pub fn twins_are_fused()
     ensures result { fused twins 1 2 ≡ one_of_twins }
     ensures then_none { first_twins one_of_twins ≡ None }
     ensures whole { Fused twins one_of_twins }
-    ensures not_watched { first_twins (twins_with (WatchedVariable 0 ∷ WatchedVertex 1 ∷ []) []) ≡ None }
-    ensures not_cancelled { first_twins (twins_with x_watched (plain_edge CancelNext 2 [] ∷ [])) ≡ None }
+    ensures not_watched { first_twins (twins_with (WatchedVariable 0 ∷ WatchedVertex 1 ∷ []) [])
+        ≡ None }
+    ensures not_cancelled { first_twins (twins_with x_watched (plain_edge CancelNext 2 [] ∷ []))
+        ≡ None }
 {}
 
 /// A run of the model and one of what is left of it look the same.
@@ -38,6 +42,7 @@ pub fn fused_runs_look_alike()
     ensures alike { look twins 1 [] 5 99 ≡ look one_of_twins 1 [] 5 99 }
     ensures seen { look one_of_twins 1 [] 5 99
         ≡ showing
-        (At 0 (scalars (0 ∷ [])) ∷ At 1 (scalars (1 ∷ [])) ∷ At 2 (scalars (2 ∷ [])) ∷ At 4 (scalars (3 ∷ []))
+        (At 0 (scalars (0 ∷ [])) ∷ At 1 (scalars (1 ∷ [])) ∷ At 2 (scalars (2 ∷ []))
+        ∷ At 4 (scalars (3 ∷ []))
         ∷ At 5 (scalars (4 ∷ [])) ∷ []) Stopped }
 {}

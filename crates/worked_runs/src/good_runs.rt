@@ -12,28 +12,42 @@ ghost use Rattle.worked_runs.specs.SavedExamples.{due};
 pub fn numbers_of_good_runs_have_limits()
     ensures whole { IsGood harbour two_events_saved }
     ensures least { IsGood harbour bare_saved }
-    ensures greatest { IsGood harbour (record bare_saved { seed = 18446744073709551615; clock = 281474976710656; events = 1099511627776 }) }
+    ensures greatest { IsGood harbour
+        (record bare_saved { seed = 18446744073709551615; clock = 281474976710656; events = 1099511627776 }) }
     ensures seed { IsGood harbour (record bare_saved { seed = 18446744073709551616 }) → ⊥ }
     ensures clock { IsGood harbour (record bare_saved { clock = 281474976710657 }) → ⊥ }
     ensures events { IsGood harbour (record bare_saved { events = 1099511627777 }) → ⊥ }
-    ensures most_words { IsGood harbour (record bare_saved { taken = slice_set (replicate 64 0) 63 4503599627370496 }) }
-    ensures one_word_too_many { IsGood harbour (record bare_saved { taken = slice_set (replicate 64 0) 63 4503599627370497 }) → ⊥ }
+    ensures most_words { IsGood harbour
+        (record bare_saved { taken = slice_set (replicate 64 0) 63 4503599627370496 }) }
+    ensures one_word_too_many { IsGood harbour
+        (record bare_saved { taken = slice_set (replicate 64 0) 63 4503599627370497 }) → ⊥ }
     ensures one_stream_too_few { IsGood harbour (record bare_saved { taken = replicate 63 0 }) → ⊥ }
-    ensures one_stream_too_many { IsGood harbour (record bare_saved { taken = replicate 65 0 }) → ⊥ }
+    ensures one_stream_too_many { IsGood harbour (record bare_saved { taken = replicate 65 0 })
+        → ⊥ }
 {}
 
 /// There is one value in range for each cell and, where a note was taken, for each watched cell.
 pub fn values_of_good_runs_are_in_range()
-    ensures below { IsGood harbour (record bare_saved { values = neg_ℤ (pos 4) ∷ pos 0 ∷ pos 0 ∷ pos 0 ∷ [] }) → ⊥ }
-    ensures above { IsGood harbour (record bare_saved { values = pos 9 ∷ pos 1 ∷ pos 2 ∷ pos 0 ∷ [] }) → ⊥ }
-    ensures one_too_few { IsGood harbour (record bare_saved { values = pos 0 ∷ pos 0 ∷ pos 0 ∷ [] }) → ⊥ }
-    ensures one_too_many { IsGood harbour (record bare_saved { values = pos 0 ∷ pos 0 ∷ pos 0 ∷ pos 0 ∷ pos 0 ∷ [] }) → ⊥ }
-    ensures noted { IsGood harbour (record bare_saved { noted = Some (pos 1 ∷ pos 0 ∷ pos 9 ∷ []) }) }
-    ensures noted_by_declaration { IsGood harbour (record bare_saved { noted = Some (pos 9 ∷ pos 1 ∷ pos 0 ∷ []) }) → ⊥ }
-    ensures one_noted_too_few { IsGood harbour (record bare_saved { noted = Some (pos 1 ∷ pos 0 ∷ []) }) → ⊥ }
-    ensures one_noted_too_many { IsGood harbour (record bare_saved { noted = Some (pos 1 ∷ pos 0 ∷ pos 9 ∷ pos 0 ∷ []) }) → ⊥ }
-    ensures none_watched { IsGood (harbour_watching (WatchedVertex 0 ∷ [])) (record bare_saved { noted = Some [] }) }
-    ensures one_of_none_watched { IsGood (harbour_watching (WatchedVertex 0 ∷ [])) (record bare_saved { noted = Some (pos 0 ∷ []) }) → ⊥ }
+    ensures below { IsGood harbour
+        (record bare_saved { values = neg_ℤ (pos 4) ∷ pos 0 ∷ pos 0 ∷ pos 0 ∷ [] }) → ⊥ }
+    ensures above { IsGood harbour
+        (record bare_saved { values = pos 9 ∷ pos 1 ∷ pos 2 ∷ pos 0 ∷ [] }) → ⊥ }
+    ensures one_too_few { IsGood harbour (record bare_saved { values = pos 0 ∷ pos 0 ∷ pos 0 ∷ [] })
+        → ⊥ }
+    ensures one_too_many { IsGood harbour
+        (record bare_saved { values = pos 0 ∷ pos 0 ∷ pos 0 ∷ pos 0 ∷ pos 0 ∷ [] }) → ⊥ }
+    ensures noted { IsGood harbour
+        (record bare_saved { noted = Some (pos 1 ∷ pos 0 ∷ pos 9 ∷ []) }) }
+    ensures noted_by_declaration { IsGood harbour
+        (record bare_saved { noted = Some (pos 9 ∷ pos 1 ∷ pos 0 ∷ []) }) → ⊥ }
+    ensures one_noted_too_few { IsGood harbour
+        (record bare_saved { noted = Some (pos 1 ∷ pos 0 ∷ []) }) → ⊥ }
+    ensures one_noted_too_many { IsGood harbour
+        (record bare_saved { noted = Some (pos 1 ∷ pos 0 ∷ pos 9 ∷ pos 0 ∷ []) }) → ⊥ }
+    ensures none_watched { IsGood (harbour_watching (WatchedVertex 0 ∷ []))
+        (record bare_saved { noted = Some [] }) }
+    ensures one_of_none_watched { IsGood (harbour_watching (WatchedVertex 0 ∷ []))
+        (record bare_saved { noted = Some (pos 0 ∷ []) }) → ⊥ }
 {}
 
 /// A pending event is due from the clock on and at most 2^63 - 1 later, has a priority of at most 255 and a vertex, and
@@ -46,10 +60,14 @@ pub fn events_of_good_runs_may_be_pending()
     ensures priority { IsGoodEntry harbour 5 (due 5 256 0) → ⊥ }
     ensures no_vertex { IsGoodEntry harbour 5 (due 5 5 2) → ⊥ }
     ensures no_value_of_two { IsGoodEntry harbour 5 (due 5 5 1) → ⊥ }
-    ensures ends { IsGoodEntry harbour 5 (a_due 5 5 (neg_ℤ (pos 9223372036854775808) ∷ pos 9223372036854775807 ∷ [])) }
-    ensures below { IsGoodEntry harbour 5 (a_due 5 5 (pos 0 ∷ neg_ℤ (pos 9223372036854775809) ∷ [])) → ⊥ }
+    ensures ends { IsGoodEntry harbour 5
+        (a_due 5 5 (neg_ℤ (pos 9223372036854775808) ∷ pos 9223372036854775807 ∷ [])) }
+    ensures below { IsGoodEntry harbour 5 (a_due 5 5 (pos 0 ∷ neg_ℤ (pos 9223372036854775809) ∷ []))
+        → ⊥ }
     ensures above { IsGoodEntry harbour 5 (a_due 5 5 (pos 0 ∷ pos 9223372036854775808 ∷ [])) → ⊥ }
     ensures one_too_many { IsGoodEntry harbour 5 (a_due 5 5 (pos 0 ∷ pos 0 ∷ pos 0 ∷ [])) → ⊥ }
-    ensures later_one { IsGood harbour (record bare_saved { pending = due 0 5 0 ∷ due 0 256 0 ∷ [] }) → ⊥ }
-    ensures before_the_clock { IsGood harbour (record bare_saved { clock = 5; pending = due 4 5 0 ∷ [] }) → ⊥ }
+    ensures later_one { IsGood harbour
+        (record bare_saved { pending = due 0 5 0 ∷ due 0 256 0 ∷ [] }) → ⊥ }
+    ensures before_the_clock { IsGood harbour
+        (record bare_saved { clock = 5; pending = due 4 5 0 ∷ [] }) → ⊥ }
 {}

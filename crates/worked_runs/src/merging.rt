@@ -14,7 +14,8 @@ ghost use Rattle.worked_runs.specs.MergingModels.{three_at_once, chain_merged, b
 pub fn plain_edges_are_alone()
     ensures alone { plain_urgent (event [] [] (schedule 0 (whole 1) ∷ urgent 1 ∷ [])) ≡ Some 1 }
     ensures conditional { plain_urgent (event [] [] (only_if (positive 0) (urgent 1) ∷ [])) ≡ None }
-    ensures two { plain_urgent (event [] [] (urgent 1 ∷ only_if (positive 0) (urgent 2) ∷ [])) ≡ None }
+    ensures two { plain_urgent (event [] [] (urgent 1 ∷ only_if (positive 0) (urgent 2) ∷ []))
+        ≡ None }
     ensures none { plain_urgent (event [] [] (schedule 0 (whole 1) ∷ [])) ≡ None }
 {}
 
@@ -33,17 +34,28 @@ pub fn merge_has_conditions()
     ensures either { first_failed (merge_conditions (choosing not_positive) 0 1) ≡ None }
     ensures either_by_numbers { first_failed (merge_conditions (choosing is_zero) 0 1) ≡ None }
     ensures perhaps_both { first_failed (merge_conditions (choosing below_five) 0 1) ≡ Some 3 }
-    ensures target_watched { first_failed (merge_conditions (with_others (WatchedVertex 1 ∷ []) []) 0 1) ≡ Some 4 }
-    ensures cancelled { first_failed (merge_conditions (with_others x_watched (cancels_next 1 ∷ [])) 0 1) ≡ Some 5 }
-    ensures another_cancelled { first_failed (merge_conditions (with_others x_watched (cancels_next 2 ∷ [])) 0 1) ≡ None }
-    ensures reads_what_is_given { first_failed (merge_conditions (with_others x_watched (schedule 2 (Scalar 0) ∷ [])) 0 1) ≡ Some 6 }
-    ensures reads_what_is_set { first_failed (merge_conditions (then_set 0 (schedule 0 (Scalar 0) ∷ [])) 0 1) ≡ Some 6 }
-    ensures another_may_fault { first_failed (merge_conditions (with_others x_watched (schedule 2 one_over_zero ∷ [])) 0 1) ≡ Some 6 }
-    ensures may_fault { first_failed (merge_conditions (counting_down (WatchedVertex 0 ∷ [])) 0 1) ≡ Some 7 }
+    ensures target_watched { first_failed
+        (merge_conditions (with_others (WatchedVertex 1 ∷ []) []) 0 1) ≡ Some 4 }
+    ensures cancelled { first_failed
+        (merge_conditions (with_others x_watched (cancels_next 1 ∷ [])) 0 1) ≡ Some 5 }
+    ensures another_cancelled { first_failed
+        (merge_conditions (with_others x_watched (cancels_next 2 ∷ [])) 0 1) ≡ None }
+    ensures reads_what_is_given { first_failed
+        (merge_conditions (with_others x_watched (schedule 2 (Scalar 0) ∷ [])) 0 1) ≡ Some 6 }
+    ensures reads_what_is_set { first_failed
+        (merge_conditions (then_set 0 (schedule 0 (Scalar 0) ∷ [])) 0 1) ≡ Some 6 }
+    ensures another_may_fault { first_failed
+        (merge_conditions (with_others x_watched (schedule 2 one_over_zero ∷ [])) 0 1) ≡ Some 6 }
+    ensures may_fault { first_failed (merge_conditions (counting_down (WatchedVertex 0 ∷ [])) 0 1)
+        ≡ Some 7 }
     ensures unseen_fault { first_failed (merge_conditions (counting_down []) 0 1) ≡ None }
-    ensures writes_what_is_watched { first_failed (merge_conditions (with_others (WatchedVertex 0 ∷ WatchedVariable 0 ∷ []) []) 0 1) ≡ Some 7 }
-    ensures given_beyond_the_range { first_failed (merge_conditions (giving (whole 10) (WatchedVertex 0 ∷ []) []) 0 1) ≡ Some 7 }
-    ensures writes_unseen { first_failed (merge_conditions (with_others (WatchedVertex 0 ∷ []) []) 0 1) ≡ None }
+    ensures writes_what_is_watched { first_failed
+        (merge_conditions (with_others (WatchedVertex 0 ∷ WatchedVariable 0 ∷ []) []) 0 1)
+        ≡ Some 7 }
+    ensures given_beyond_the_range { first_failed
+        (merge_conditions (giving (whole 10) (WatchedVertex 0 ∷ []) []) 0 1) ≡ Some 7 }
+    ensures writes_unseen { first_failed
+        (merge_conditions (with_others (WatchedVertex 0 ∷ []) []) 0 1) ≡ None }
     ensures too_many_changes { first_failed (merge_conditions (then_set 1000 []) 0 1) ≡ Some 8 }
     ensures as_many_changes { first_failed (merge_conditions (then_set 999 []) 0 1) ≡ None }
     ensures too_many_bytes { first_failed (merge_conditions (long_named 4194171) 1 2) ≡ Some 8 }
@@ -54,7 +66,8 @@ pub fn merge_has_conditions()
 pub fn merge_has_a_result()
     ensures chain_of_three { merged three_at_once 1 2 ≡ chain_merged }
     ensures of_bank { merged bank 0 1 ≡ bank_merged }
-    ensures parameters_are_set { merged (with_others x_watched (schedule 2 (whole 3) ∷ [])) 0 1 ≡ with_others_merged }
+    ensures parameters_are_set { merged (with_others x_watched (schedule 2 (whole 3) ∷ [])) 0 1
+        ≡ with_others_merged }
 {}
 
 /// The first vertex that may be merged is merged with the one to which its plain urgent edge leads.

@@ -27,11 +27,13 @@ pub fn uses_are_told()
 
 /// Variables that are watched, given at the start, compared or decisive are needed, whatever else is.
 pub fn some_variables_are_needed_at_once()
-    ensures none { unneeded (unfaulting [] [] (both_grow ∷ []) (schedule_with 1 3 5 ∷ [])) ≡ 0 ∷ 1 ∷ [] }
+    ensures none { unneeded (unfaulting [] [] (both_grow ∷ []) (schedule_with 1 3 5 ∷ []))
+        ≡ 0 ∷ 1 ∷ [] }
     ensures watched { unneeded (unfaulting x_watched [] [] []) ≡ 1 ∷ [] }
     ensures given { unneeded (unfaulting [] (1 ∷ []) [] []) ≡ 0 ∷ [] }
     ensures compared { unneeded (unfaulting [] [] [] (cancel_three ∷ [])) ≡ 1 ∷ [] }
-    ensures in_a_condition { unneeded (unfaulting [] [] [] (only_if (positive 1) (urgent 0) ∷ [])) ≡ 0 ∷ [] }
+    ensures in_a_condition { unneeded (unfaulting [] [] [] (only_if (positive 1) (urgent 0) ∷ []))
+        ≡ 0 ∷ [] }
     ensures in_a_delay { unneeded (unfaulting [] [] [] (schedule 0 (Scalar 1) ∷ [])) ≡ 0 ∷ [] }
 {}
 
@@ -39,10 +41,15 @@ pub fn some_variables_are_needed_at_once()
 pub fn some_variables_are_needed_for_others()
     ensures for_a_value { unneeded (unfaulting x_watched [] (set 0 (plus_one 1) ∷ []) []) ≡ [] }
     ensures not_for_its_own { unneeded (unfaulting x_watched [] (both_grow ∷ []) []) ≡ 1 ∷ [] }
-    ensures for_an_index { unneeded (with_cells x_watched (Set (at_cell 0 (Scalar 1) ∷ []) (whole 1 ∷ []) ∷ [])) ≡ [] }
-    ensures for_a_drawn_index { unneeded (with_cells x_watched (Draw (at_cell 0 (Scalar 1)) 54 (Uniform (pos 1) (pos 6)) ∷ [])) ≡ [] }
-    ensures for_what_is_carried { unneeded (unfaulting x_watched [] [] (carrying_variable 1 ∷ [])) ≡ [] }
-    ensures carried_for_none { unneeded (unfaulting [] [] [] (carrying_variable 1 ∷ [])) ≡ 0 ∷ 1 ∷ [] }
+    ensures for_an_index { unneeded
+        (with_cells x_watched (Set (at_cell 0 (Scalar 1) ∷ []) (whole 1 ∷ []) ∷ [])) ≡ [] }
+    ensures for_a_drawn_index { unneeded
+        (with_cells x_watched (Draw (at_cell 0 (Scalar 1)) 54 (Uniform (pos 1) (pos 6)) ∷ []))
+        ≡ [] }
+    ensures for_what_is_carried { unneeded (unfaulting x_watched [] [] (carrying_variable 1 ∷ []))
+        ≡ [] }
+    ensures carried_for_none { unneeded (unfaulting [] [] [] (carrying_variable 1 ∷ []))
+        ≡ 0 ∷ 1 ∷ [] }
 {}
 
 /// A variable is needed where a value for it, an index or a store may fault.
@@ -50,11 +57,14 @@ pub fn faults_are_needed()
     ensures store { unneeded (strict (set 0 (minus_one 0) ∷ []) []) ≡ 1 ∷ [] }
     ensures no_fault { unneeded (strict (set 0 (whole 9) ∷ []) []) ≡ 0 ∷ 1 ∷ [] }
     ensures value { unneeded (unfaulting [] [] (set 1 one_over_zero ∷ []) []) ≡ 0 ∷ [] }
-    ensures index { unneeded (with_cells [] (Set (at_cell 0 (whole 3) ∷ []) (whole 1 ∷ []) ∷ [])) ≡ 1 ∷ [] }
+    ensures index { unneeded (with_cells [] (Set (at_cell 0 (whole 3) ∷ []) (whole 1 ∷ []) ∷ []))
+        ≡ 1 ∷ [] }
     ensures drawn_store { unneeded (strict (draw 0 54 1 10 ∷ []) []) ≡ 1 ∷ [] }
-    ensures drawn_index { unneeded (with_cells [] (Draw (at_cell 0 (plus_one 1)) 54 (Uniform (pos 1) (pos 6)) ∷ [])) ≡ [] }
+    ensures drawn_index { unneeded
+        (with_cells [] (Draw (at_cell 0 (plus_one 1)) 54 (Uniform (pos 1) (pos 6)) ∷ [])) ≡ [] }
     ensures carried_store { unneeded (strict [] (schedule_with 1 10 5 ∷ [])) ≡ 1 ∷ [] }
-    ensures carried_value { unneeded (unfaulting [] [] [] (plain_edge Urgent 1 (one_over_zero ∷ []) ∷ [])) ≡ 1 ∷ [] }
+    ensures carried_value { unneeded
+        (unfaulting [] [] [] (plain_edge Urgent 1 (one_over_zero ∷ []) ∷ [])) ≡ 1 ∷ [] }
 {}
 
 /// The needed variables are those that are needed at once or for a needed one, and no others.
@@ -69,7 +79,8 @@ pub fn the_least_are_needed()
 pub fn streams_are_needed_whole()
     ensures one_stream { unneeded (two_draws 54) ≡ [] }
     ensures two_streams { unneeded (two_draws 53) ≡ 1 ∷ [] }
-    ensures none_is_needed { unneeded (unfaulting [] [] (draw 1 54 1 6 ∷ draw 0 54 1 6 ∷ []) []) ≡ 0 ∷ 1 ∷ [] }
+    ensures none_is_needed { unneeded (unfaulting [] [] (draw 1 54 1 6 ∷ draw 0 54 1 6 ∷ []) [])
+        ≡ 0 ∷ 1 ∷ [] }
 {}
 
 /// Condition 1 of slice is that the list isn't empty, and condition 2 that it lists exactly the variables that aren't
@@ -78,7 +89,8 @@ pub fn slice_has_conditions()
     ensures holds { first_failed (slice_conditions bank (3 ∷ [])) ≡ None }
     ensures empty { first_failed (slice_conditions bank []) ≡ Some 1 }
     ensures not_these { first_failed (slice_conditions bank (2 ∷ [])) ≡ Some 2 }
-    ensures not_in_order { first_failed (slice_conditions (unfaulting [] [] [] []) (1 ∷ 0 ∷ [])) ≡ Some 2 }
+    ensures not_in_order { first_failed (slice_conditions (unfaulting [] [] [] []) (1 ∷ 0 ∷ []))
+        ≡ Some 2 }
     ensures marks { needed_marks bank ≡ true ∷ true ∷ true ∷ false ∷ [] }
     ensures result { sliced bank (3 ∷ []) ≡ unseen_bank }
     ensures draw_goes { sliced (two_draws 53) (1 ∷ []) ≡ one_draw }

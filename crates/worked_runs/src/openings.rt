@@ -8,9 +8,12 @@ ghost use Rattle.worked_runs.specs.GrammarTexts.{IsRefusedAt, deep_in, deep_in_f
 pub fn openings_are_counted()
     ensures within_the_limit { deep_in 3 (codes "A + B * C - D") ≡ None }
     ensures one_too_many { deep_in 2 (codes "A + B * C - D") ≡ Some 10 }
-    ensures all_of_them { deep_in 18 (codes "or and not if min max = <> < <= > >= + - * / % ( [") ≡ Some 49 }
-    ensures no_more { deep_in 19 (codes "or and not if min max = <> < <= > >= + - * / % ( [") ≡ None }
-    ensures no_others { deep_in 0 (codes "X 5 true false clk then else end when := : , .. ) ] # +") ≡ None }
+    ensures all_of_them { deep_in 18 (codes "or and not if min max = <> < <= > >= + - * / % ( [")
+        ≡ Some 49 }
+    ensures no_more { deep_in 19 (codes "or and not if min max = <> < <= > >= + - * / % ( [")
+        ≡ None }
+    ensures no_others { deep_in 0 (codes "X 5 true false clk then else end when := : , .. ) ] # +")
+        ≡ None }
     ensures sign { deep_in 0 (codes "0..-5") ≡ Some 3 }
     ensures bracket { deep_in 0 (codes "var N[4]") ≡ Some 5 }
     ensures call { deep_in 0 (codes "0 min") ≡ Some 2 }
@@ -29,7 +32,10 @@ pub fn parts_are_apart()
 
 /// A part may have 256 openings: a text that goes on so is refused at its end, and one more is too deep.
 pub fn a_part_has_256_openings()
-    ensures none_too_deep { deep_in OPENINGS_MAX (codes "model M; vertex A { set X := " ++ replicate 256 40) ≡ None }
-    ensures refused_at_its_end { IsRefusedAt (codes "model M; vertex A { set X := " ++ replicate 256 40) 285 }
-    ensures too_deep { deep_in OPENINGS_MAX (codes "model M; vertex A { set X := " ++ replicate 257 40) ≡ Some 285 }
+    ensures none_too_deep { deep_in OPENINGS_MAX
+        (codes "model M; vertex A { set X := " ++ replicate 256 40) ≡ None }
+    ensures refused_at_its_end { IsRefusedAt
+        (codes "model M; vertex A { set X := " ++ replicate 256 40) 285 }
+    ensures too_deep { deep_in OPENINGS_MAX
+        (codes "model M; vertex A { set X := " ++ replicate 257 40) ≡ Some 285 }
 {}

@@ -12,8 +12,10 @@ ghost use Rattle.worked_runs.specs.BoundedModel.{bounded, numbers_in, either_tru
 pub fn stores_may_be_quiet()
     ensures whole_range { quiet_store (variable_at bounded 0) (numbers_in (pos 0) (pos 3)) ≡ true }
     ensures above { quiet_store (variable_at bounded 0) (numbers_in (pos 0) (pos 4)) ≡ false }
-    ensures below { quiet_store (variable_at bounded 0) (numbers_in (neg_ℤ (pos 1)) (pos 3)) ≡ false }
-    ensures clipped { quiet_store (variable_at bounded 6) (numbers_in (neg_ℤ (pos 1)) (pos 100)) ≡ true }
+    ensures below { quiet_store (variable_at bounded 0) (numbers_in (neg_ℤ (pos 1)) (pos 3))
+        ≡ false }
+    ensures clipped { quiet_store (variable_at bounded 6) (numbers_in (neg_ℤ (pos 1)) (pos 100))
+        ≡ true }
     ensures truth { quiet_store (variable_at bounded 2) either_truth ≡ true }
 {}
 
@@ -22,26 +24,39 @@ pub fn changes_may_be_quiet()
     ensures set { quiet_change bounded (set 0 (whole 3)) ≡ true }
     ensures set_outside { quiet_change bounded (set 0 y) ≡ false }
     ensures set_a_fault { quiet_change bounded (set 6 (Binary Divide (whole 5) x)) ≡ false }
-    ensures two { quiet_change bounded (Set (at_variable 0 ∷ at_variable 6 ∷ []) (x ∷ y ∷ [])) ≡ true }
-    ensures second { quiet_change bounded (Set (at_variable 6 ∷ at_variable 0 ∷ []) (x ∷ y ∷ [])) ≡ false }
-    ensures cell { quiet_change bounded (Set (at_cell 4 (Binary Least x (whole 2)) ∷ []) (x ∷ [])) ≡ true }
+    ensures two { quiet_change bounded (Set (at_variable 0 ∷ at_variable 6 ∷ []) (x ∷ y ∷ []))
+        ≡ true }
+    ensures second { quiet_change bounded (Set (at_variable 6 ∷ at_variable 0 ∷ []) (x ∷ y ∷ []))
+        ≡ false }
+    ensures cell { quiet_change bounded (Set (at_cell 4 (Binary Least x (whole 2)) ∷ []) (x ∷ []))
+        ≡ true }
     ensures cell_beyond { quiet_change bounded (Set (at_cell 4 x ∷ []) (x ∷ [])) ≡ false }
     ensures draw { quiet_change bounded (Draw (at_variable 0) 54 (Uniform (pos 0) (pos 3))) ≡ true }
-    ensures draw_outside { quiet_change bounded (Draw (at_variable 0) 54 (Uniform (pos 0) (pos 4))) ≡ false }
-    ensures values_of_a_table { choice_bounds bounded (ByTable 0) ≡ numbers_in (neg_ℤ (pos 2)) (pos 9) }
-    ensures draw_by_table { quiet_change bounded (Draw (at_cell 4 (whole 0)) 54 (ByTable 0)) ≡ false }
+    ensures draw_outside { quiet_change bounded (Draw (at_variable 0) 54 (Uniform (pos 0) (pos 4)))
+        ≡ false }
+    ensures values_of_a_table { choice_bounds bounded (ByTable 0)
+        ≡ numbers_in (neg_ℤ (pos 2)) (pos 9) }
+    ensures draw_by_table { quiet_change bounded (Draw (at_cell 4 (whole 0)) 54 (ByTable 0))
+        ≡ false }
     ensures draw_clipped { quiet_change bounded (Draw (at_variable 6) 54 (ByTable 0)) ≡ true }
 {}
 
 /// An edge is quiet where its condition, its values and its delay are, and the delay is never below 0.
 pub fn edges_may_be_quiet()
-    ensures scheduled { quiet_edge bounded (only_if b (plain_edge (Schedule (Fixed x) 5) 0 (y ∷ []))) ≡ true }
+    ensures scheduled { quiet_edge bounded
+        (only_if b (plain_edge (Schedule (Fixed x) 5) 0 (y ∷ []))) ≡ true }
     ensures delay_below { quiet_edge bounded (plain_edge (Schedule (Fixed y) 5) 0 []) ≡ false }
-    ensures delay_is_a_fault { quiet_edge bounded (plain_edge (Schedule (Fixed (Binary Divide (whole 1) x)) 5) 0 []) ≡ false }
-    ensures drawn_delay { quiet_edge bounded (plain_edge (Schedule (Drawn 54 (Uniform (pos 0) (pos 3))) 5) 0 []) ≡ true }
-    ensures drawn_below { quiet_edge bounded (plain_edge (Schedule (Drawn 54 (Uniform (neg_ℤ (pos 1)) (pos 3))) 5) 0 []) ≡ false }
-    ensures drawn_by_table { quiet_edge bounded (plain_edge (Schedule (Drawn 54 (ByTable 0)) 5) 0 []) ≡ false }
-    ensures condition_is_a_fault { quiet_edge bounded (only_if over_x_is_1 (plain_edge Urgent 0 [])) ≡ false }
-    ensures value_is_a_fault { quiet_edge bounded (plain_edge Urgent 0 (x ∷ over_x_is_1 ∷ [])) ≡ false }
+    ensures delay_is_a_fault { quiet_edge bounded
+        (plain_edge (Schedule (Fixed (Binary Divide (whole 1) x)) 5) 0 []) ≡ false }
+    ensures drawn_delay { quiet_edge bounded
+        (plain_edge (Schedule (Drawn 54 (Uniform (pos 0) (pos 3))) 5) 0 []) ≡ true }
+    ensures drawn_below { quiet_edge bounded
+        (plain_edge (Schedule (Drawn 54 (Uniform (neg_ℤ (pos 1)) (pos 3))) 5) 0 []) ≡ false }
+    ensures drawn_by_table { quiet_edge bounded
+        (plain_edge (Schedule (Drawn 54 (ByTable 0)) 5) 0 []) ≡ false }
+    ensures condition_is_a_fault { quiet_edge bounded (only_if over_x_is_1 (plain_edge Urgent 0 []))
+        ≡ false }
+    ensures value_is_a_fault { quiet_edge bounded (plain_edge Urgent 0 (x ∷ over_x_is_1 ∷ []))
+        ≡ false }
     ensures cancelled { quiet_edge bounded (plain_edge CancelNext 0 []) ≡ true }
 {}

@@ -11,6 +11,8 @@ pub fn merge_comes_before_slice()
     ensures merge_first { first_rule bank ≡ Some (Merge (codes "RUN") (codes "ENTER")) }
     ensures then_slice { first_rule bank_merged ≡ Some (Slice (codes "SEEN" ∷ [])) }
     ensures slice_could_be_first { failed_condition bank (Slice (codes "SEEN" ∷ [])) ≡ None }
-    ensures whole { Strategy bank (Merge (codes "RUN") (codes "ENTER") ∷ Slice (codes "SEEN" ∷ []) ∷ []) smaller_bank }
-    ensures not_slice_first { Strategy bank (Slice (codes "SEEN" ∷ []) ∷ Merge (codes "RUN") (codes "ENTER") ∷ []) smaller_bank → ⊥ }
+    ensures whole { Strategy bank
+        (Merge (codes "RUN") (codes "ENTER") ∷ Slice (codes "SEEN" ∷ []) ∷ []) smaller_bank }
+    ensures not_slice_first { Strategy bank
+        (Slice (codes "SEEN" ∷ []) ∷ Merge (codes "RUN") (codes "ENTER") ∷ []) smaller_bank → ⊥ }
 {}

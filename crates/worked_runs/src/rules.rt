@@ -26,9 +26,12 @@ pub fn applications_are_made_in_order()
     ensures refused { applied idle (Prune (codes "RUN") 1) ≡ None }
     ensures edges_move_up { pruned once_pruned 1 1 ≡ twice_pruned }
     ensures no_bad_one { first_bad idle (Prune (codes "A") 1 ∷ Prune (codes "A") 2 ∷ []) ≡ None }
-    ensures second_is_bad { first_bad idle (Prune (codes "A") 1 ∷ Prune (codes "A") 1 ∷ []) ≡ Some 2 }
-    ensures first_is_bad { first_bad idle (Prune (codes "RUN") 1 ∷ Prune (codes "A") 1 ∷ []) ≡ Some 1 }
-    ensures third_is_bad { first_bad idle (Prune (codes "A") 3 ∷ Prune (codes "A") 1 ∷ Prune (codes "A") 3 ∷ []) ≡ Some 3 }
+    ensures second_is_bad { first_bad idle (Prune (codes "A") 1 ∷ Prune (codes "A") 1 ∷ [])
+        ≡ Some 2 }
+    ensures first_is_bad { first_bad idle (Prune (codes "RUN") 1 ∷ Prune (codes "A") 1 ∷ [])
+        ≡ Some 1 }
+    ensures third_is_bad { first_bad idle
+        (Prune (codes "A") 3 ∷ Prune (codes "A") 1 ∷ Prune (codes "A") 3 ∷ []) ≡ Some 3 }
 {}
 
 /// The strategy takes the first edge that may be pruned, each time.
@@ -37,7 +40,8 @@ pub fn the_first_rule_is_taken()
     ensures first { first_rule idle ≡ Some (Prune (codes "A") 1) }
     ensures then { first_rule once_pruned ≡ Some (Prune (codes "A") 2) }
     ensures none_at_the_end { first_rule twice_pruned ≡ None }
-    ensures text { certificate (Prune (codes "A") 1 ∷ Prune (codes "A") 2 ∷ []) ≡ codes "certificate\nprune A 1\nprune A 2\nend\n" }
+    ensures text { certificate (Prune (codes "A") 1 ∷ Prune (codes "A") 2 ∷ [])
+        ≡ codes "certificate\nprune A 1\nprune A 2\nend\n" }
 {}
 
 /// The whole reduction. It doesn't stop where a rule is left.
@@ -49,8 +53,10 @@ pub fn the_strategy_ends()
 /// A reduction is sound where its applications lead to the other model. Else the first bad one is reported, and where
 /// none is bad, that they lead elsewhere.
 pub fn reductions_are_judged()
-    ensures sound { verdict idle (Prune (codes "A") 1 ∷ Prune (codes "A") 2 ∷ []) twice_pruned ≡ Sound }
+    ensures sound { verdict idle (Prune (codes "A") 1 ∷ Prune (codes "A") 2 ∷ []) twice_pruned
+        ≡ Sound }
     ensures in_part { verdict idle (Prune (codes "A") 3 ∷ []) (pruned idle 1 2) ≡ Sound }
-    ensures rejected { verdict idle (Prune (codes "A") 1 ∷ Prune (codes "A") 1 ∷ []) once_pruned ≡ Rejected 2 }
+    ensures rejected { verdict idle (Prune (codes "A") 1 ∷ Prune (codes "A") 1 ∷ []) once_pruned
+        ≡ Rejected 2 }
     ensures differs { verdict idle (Prune (codes "A") 1 ∷ []) twice_pruned ≡ Differs }
 {}

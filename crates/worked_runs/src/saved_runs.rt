@@ -20,31 +20,42 @@ pub fn cells_are_told_in_order()
     ensures scalar { cells_declared harbour 0 ≡ 1 }
     ensures array { cells_declared harbour 1 ≡ 2 }
     ensures no_variable { cells_declared harbour 3 ≡ 0 }
-    ensures sizes { watched_sizes harbour (WatchedVariable 1 ∷ WatchedVertex 1 ∷ WatchedVariable 0 ∷ []) ≡ 2 ∷ 1 ∷ [] }
-    ensures cut { cut_up (2 ∷ 0 ∷ 1 ∷ []) (pos 5 ∷ pos 6 ∷ pos 7 ∷ []) ≡ (pos 5 ∷ pos 6 ∷ []) ∷ [] ∷ (pos 7 ∷ []) ∷ [] }
-    ensures joined { in_one_list ((pos 5 ∷ pos 6 ∷ []) ∷ [] ∷ (pos 7 ∷ []) ∷ []) ≡ pos 5 ∷ pos 6 ∷ pos 7 ∷ [] }
-    ensures of_variables { cell_variables harbour.variables ≡ harbour_n ∷ harbour_flags ∷ harbour_flags ∷ harbour_z ∷ [] }
-    ensures watched { variables_watched harbour (WatchedVariable 2 ∷ WatchedVertex 0 ∷ WatchedVariable 1 ∷ []) ≡ harbour_z ∷ harbour_flags ∷ [] }
+    ensures sizes { watched_sizes harbour
+        (WatchedVariable 1 ∷ WatchedVertex 1 ∷ WatchedVariable 0 ∷ []) ≡ 2 ∷ 1 ∷ [] }
+    ensures cut { cut_up (2 ∷ 0 ∷ 1 ∷ []) (pos 5 ∷ pos 6 ∷ pos 7 ∷ [])
+        ≡ (pos 5 ∷ pos 6 ∷ []) ∷ [] ∷ (pos 7 ∷ []) ∷ [] }
+    ensures joined { in_one_list ((pos 5 ∷ pos 6 ∷ []) ∷ [] ∷ (pos 7 ∷ []) ∷ [])
+        ≡ pos 5 ∷ pos 6 ∷ pos 7 ∷ [] }
+    ensures of_variables { cell_variables harbour.variables
+        ≡ harbour_n ∷ harbour_flags ∷ harbour_flags ∷ harbour_z ∷ [] }
+    ensures watched { variables_watched harbour
+        (WatchedVariable 2 ∷ WatchedVertex 0 ∷ WatchedVariable 1 ∷ [])
+        ≡ harbour_z ∷ harbour_flags ∷ [] }
 {}
 
 /// Pending events are saved by time, then by priority, and those that are due alike in the order of scheduling.
 pub fn events_are_in_due_order()
     ensures mixed { in_due_order five_pending ≡ five_due }
     ensures again { in_due_order five_due ≡ five_due }
-    ensures by_time_before_priority { in_due_order (due 9 1 0 ∷ due 4 5 1 ∷ []) ≡ due 4 5 1 ∷ due 9 1 0 ∷ [] }
+    ensures by_time_before_priority { in_due_order (due 9 1 0 ∷ due 4 5 1 ∷ [])
+        ≡ due 4 5 1 ∷ due 9 1 0 ∷ [] }
     ensures none { in_due_order [] ≡ [] }
 {}
 
 /// Two runs are alike that scheduled events in another order which aren't due alike. With another clock, state or
 /// number of words taken, or with another order of events that are due alike, they don't.
 pub fn runs_may_stand_alike()
-    ensures another_order { Alike (standing_so 4 3 0 (due 9 5 0 ∷ due 4 5 1 ∷ [])) (standing_so 4 3 0 (due 4 5 1 ∷ due 9 5 0 ∷ [])) }
-    ensures another_order_of_priorities { Alike (standing_so 4 3 0 (due 4 5 0 ∷ due 4 3 1 ∷ [])) (standing_so 4 3 0 (due 4 3 1 ∷ due 4 5 0 ∷ [])) }
+    ensures another_order { Alike (standing_so 4 3 0 (due 9 5 0 ∷ due 4 5 1 ∷ []))
+        (standing_so 4 3 0 (due 4 5 1 ∷ due 9 5 0 ∷ [])) }
+    ensures another_order_of_priorities { Alike (standing_so 4 3 0 (due 4 5 0 ∷ due 4 3 1 ∷ []))
+        (standing_so 4 3 0 (due 4 3 1 ∷ due 4 5 0 ∷ [])) }
     ensures clock { Alike (standing_so 4 3 0 []) (standing_so 5 3 0 []) → ⊥ }
     ensures state { Alike (standing_so 4 3 0 []) (standing_so 4 2 0 []) → ⊥ }
     ensures words { Alike (standing_so 4 3 0 []) (standing_so 4 3 1 []) → ⊥ }
-    ensures due_alike { Alike (standing_so 4 3 0 (due 4 5 0 ∷ due 4 5 1 ∷ [])) (standing_so 4 3 0 (due 4 5 1 ∷ due 4 5 0 ∷ [])) → ⊥ }
-    ensures an_event_more { Alike (standing_so 4 3 0 (due 4 5 0 ∷ [])) (standing_so 4 3 0 (due 4 5 0 ∷ due 9 5 0 ∷ [])) → ⊥ }
+    ensures due_alike { Alike (standing_so 4 3 0 (due 4 5 0 ∷ due 4 5 1 ∷ []))
+        (standing_so 4 3 0 (due 4 5 1 ∷ due 4 5 0 ∷ [])) → ⊥ }
+    ensures an_event_more { Alike (standing_so 4 3 0 (due 4 5 0 ∷ []))
+        (standing_so 4 3 0 (due 4 5 0 ∷ due 9 5 0 ∷ [])) → ⊥ }
 {}
 
 /// A snapshot after two events is the moment that they reached, and shows what is left of the run.
@@ -53,7 +64,8 @@ pub fn saved_runs_show_the_rest()
     ensures stands_there { saved_moment clock saved_clock ≡ counted_to 5 2 1 }
     ensures rest { history_from clock saved_clock 12 100
         ≡ showing (At 5 (scalars (2 ∷ [])) ∷ At 10 (scalars (3 ∷ [])) ∷ []) Stopped }
-    ensures up_to_an_earlier_time { history_from clock saved_clock 7 9 ≡ showing (At 5 (scalars (2 ∷ [])) ∷ []) Stopped }
+    ensures up_to_an_earlier_time { history_from clock saved_clock 7 9
+        ≡ showing (At 5 (scalars (2 ∷ [])) ∷ []) Stopped }
     ensures no_event_more { history_from clock saved_clock 12 0 ≡ showing [] Going }
 {}
 
@@ -61,16 +73,20 @@ pub fn saved_runs_show_the_rest()
 /// if there is one, and the events in due order.
 pub fn moments_are_kept_whole()
     ensures saved { saved 12884901895 2 two_events_moment ≡ two_events_due }
-    ensures stands_there { saved_moment harbour two_events_due ≡ record two_events_moment { now = record two_events_moment.now { pending = two_events_due.pending } } }
-    ensures as_it_stands { (saved_moment harbour two_events_saved).now.pending ≡ two_events_saved.pending }
+    ensures stands_there { saved_moment harbour two_events_due
+        ≡ record two_events_moment { now = record two_events_moment.now { pending = two_events_due.pending } } }
+    ensures as_it_stands { (saved_moment harbour two_events_saved).now.pending
+        ≡ two_events_saved.pending }
     ensures nothing_noted { saved 0 0 bare_moment ≡ bare_saved }
     ensures nothing_noted_there { saved_moment harbour bare_saved ≡ bare_moment }
-    ensures nothing_watched { (saved_moment (harbour_watching []) (record bare_saved { noted = Some [] })).noted ≡ Some [] }
+    ensures nothing_watched { (saved_moment (harbour_watching [])
+        (record bare_saved { noted = Some [] })).noted ≡ Some [] }
 {}
 
 /// A run that goes on draws by its own seed the words after those that were taken.
 #[tactic(auto, unfolding(rand_pcg::specs::Lcg::state_after))]
 pub fn saved_streams_go_on()
     ensures { history_from (arriving (after_draw 0 one_to_six ∷ [])) saved_delay 12 9
-        ≡ showing (At 4 (scalars (2 ∷ [])) ∷ At 7 (scalars (3 ∷ [])) ∷ At 12 (scalars (4 ∷ [])) ∷ []) Stopped }
+        ≡ showing (At 4 (scalars (2 ∷ [])) ∷ At 7 (scalars (3 ∷ []))
+        ∷ At 12 (scalars (4 ∷ [])) ∷ []) Stopped }
 {}

@@ -9,14 +9,21 @@ ghost use Rattle.worked_runs.specs.LineOpenings.{openings_of_text, openings_of_c
 
 /// Parentheses count where they are written, and an index, a call, a sign and `=` do.
 pub fn openings_are_those_of_the_text()
-    ensures chains_group_to_the_left { expression_openings (less (less n (whole 1)) (whole 2)) ≡ openings_of_text (less (less n (whole 1)) (whole 2)) }
-    ensures right_operand { expression_openings (less n (less (whole 1) (whole 2))) ≡ openings_of_text (less n (less (whole 1) (whole 2))) }
+    ensures chains_group_to_the_left { expression_openings (less (less n (whole 1)) (whole 2))
+        ≡ openings_of_text (less (less n (whole 1)) (whole 2)) }
+    ensures right_operand { expression_openings (less n (less (whole 1) (whole 2)))
+        ≡ openings_of_text (less n (less (whole 1) (whole 2))) }
     ensures three { expression_openings (less n (less (whole 1) (whole 2))) ≡ 3 }
-    ensures negative_sum { expression_openings (Negative (plus n (whole 1))) ≡ openings_of_text (Negative (plus n (whole 1))) }
-    ensures not_of_equal { expression_openings (Not (Binary Equal n (whole 1))) ≡ openings_of_text (Not (Binary Equal n (whole 1))) }
-    ensures not_of_or { expression_openings (Not (Binary Or is_open is_open)) ≡ openings_of_text (Not (Binary Or is_open is_open)) }
-    ensures call { expression_openings (times (Binary Least n Clock) (Cell 2 (plus n n))) ≡ openings_of_text (times (Binary Least n Clock) (Cell 2 (plus n n))) }
-    ensures choice { expression_openings (plus (If is_open n (whole 2)) (whole 1)) ≡ openings_of_text (plus (If is_open n (whole 2)) (whole 1)) }
+    ensures negative_sum { expression_openings (Negative (plus n (whole 1)))
+        ≡ openings_of_text (Negative (plus n (whole 1))) }
+    ensures not_of_equal { expression_openings (Not (Binary Equal n (whole 1)))
+        ≡ openings_of_text (Not (Binary Equal n (whole 1))) }
+    ensures not_of_or { expression_openings (Not (Binary Or is_open is_open))
+        ≡ openings_of_text (Not (Binary Or is_open is_open)) }
+    ensures call { expression_openings (times (Binary Least n Clock) (Cell 2 (plus n n)))
+        ≡ openings_of_text (times (Binary Least n Clock) (Cell 2 (plus n n))) }
+    ensures choice { expression_openings (plus (If is_open n (whole 2)) (whole 1))
+        ≡ openings_of_text (plus (If is_open n (whole 2)) (whole 1)) }
     ensures changes { map change_openings serve.changes ≡ openings_of_changes }
     ensures edges { map edge_openings serve.edges ≡ openings_of_edges }
 {}

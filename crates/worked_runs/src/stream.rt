@@ -9,8 +9,10 @@ ghost use Rattle.worked_runs.specs.Building.{first_six};
 pub fn stream_gives()
     ensures words { map (λ k. word 42 54 k) first_six
         ≡ 0xa15c02b7 ∷ 0x7b47f409 ∷ 0xba1d3330 ∷ 0x83d2f293 ∷ 0xbfa4784b ∷ 0xcbed606e ∷ [] }
-    ensures first_words_of_other_streams { map (λ stream. word 42 stream 0) (0 ∷ 62 ∷ 63 ∷ []) ≡ 0x21b756ee ∷ 0xbb4595d9 ∷ 0x1061a226 ∷ [] }
-    ensures first_words_of_other_seeds { map (λ seed. word seed 54 0) (0 ∷ 0xffff_ffff_ffff_ffff ∷ []) ≡ 0x47c28b93 ∷ 0x11526277 ∷ [] }
+    ensures first_words_of_other_streams { map (λ stream. word 42 stream 0) (0 ∷ 62 ∷ 63 ∷ [])
+        ≡ 0x21b756ee ∷ 0xbb4595d9 ∷ 0x1061a226 ∷ [] }
+    ensures first_words_of_other_seeds { map (λ seed. word seed 54 0)
+        (0 ∷ 0xffff_ffff_ffff_ffff ∷ []) ≡ 0x47c28b93 ∷ 0x11526277 ∷ [] }
     ensures uniform_draws { map (λ k. uniform_pick (pos 1) (pos 6) (word 42 54 k)) first_six
         ≡ pos 4 ∷ pos 3 ∷ pos 5 ∷ pos 4 ∷ pos 5 ∷ pos 5 ∷ [] }
 {}

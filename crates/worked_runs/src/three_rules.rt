@@ -60,17 +60,23 @@ pub fn rules_come_in_order()
     ensures then_drop { first_rule narrow_settled ≡ Some (Drop (codes "B" ∷ [])) }
     ensures then_none { first_rule narrow_dropped ≡ None }
     ensures drops_two { first_rule five ≡ Some (Drop (codes "LOST" ∷ codes "GONE" ∷ [])) }
-    ensures bad_in_order { first_bad narrow (Prune (codes "RUN") 1 ∷ Drop (codes "B" ∷ []) ∷ Settle (codes "RUN") 2 ∷ []) ≡ Some 3 }
+    ensures bad_in_order { first_bad narrow
+        (Prune (codes "RUN") 1 ∷ Drop (codes "B" ∷ []) ∷ Settle (codes "RUN") 2 ∷ []) ≡ Some 3 }
 {}
 
 /// The whole reduction of two models.
 pub fn three_rules_reduce()
-    ensures narrow_one { Strategy narrow (Prune (codes "RUN") 1 ∷ Settle (codes "RUN") 1 ∷ Drop (codes "B" ∷ []) ∷ []) narrow_dropped }
-    ensures faulting_one { Strategy faulting (Settle (codes "RUN") 2 ∷ Drop (codes "B" ∷ []) ∷ []) faulting_reduced }
+    ensures narrow_one { Strategy narrow
+        (Prune (codes "RUN") 1 ∷ Settle (codes "RUN") 1
+        ∷ Drop (codes "B" ∷ []) ∷ []) narrow_dropped }
+    ensures faulting_one { Strategy faulting
+        (Settle (codes "RUN") 2 ∷ Drop (codes "B" ∷ []) ∷ []) faulting_reduced }
 {}
 
 /// Each rule has its line.
 pub fn applications_have_lines()
-    ensures prune_and_settle { certificate (Prune (codes "RUN") 1 ∷ Settle (codes "RUN") 12 ∷ []) ≡ codes "certificate\nprune RUN 1\nsettle RUN 12\nend\n" }
-    ensures drop { certificate (Drop (codes "B" ∷ codes "C" ∷ []) ∷ []) ≡ codes "certificate\ndrop B C\nend\n" }
+    ensures prune_and_settle { certificate (Prune (codes "RUN") 1 ∷ Settle (codes "RUN") 12 ∷ [])
+        ≡ codes "certificate\nprune RUN 1\nsettle RUN 12\nend\n" }
+    ensures drop { certificate (Drop (codes "B" ∷ codes "C" ∷ []) ∷ [])
+        ≡ codes "certificate\ndrop B C\nend\n" }
 {}

@@ -8,21 +8,32 @@ ghost use Rattle.worked_runs.specs.Models.{of};
 
 /// Results outside the numbers of 64 bits are faults; quotients by 0 and indexes outside are faults too.
 pub fn values_are_exact()
-    ensures product_outside { of (Binary Multiply (whole 4611686018427387904) (whole 2)) ≡ Err faults.Overflow }
-    ensures greatest_sum { of (Binary Add (whole 9223372036854775806) (whole 1)) ≡ Ok (pos 9223372036854775807) }
-    ensures sum_outside { of (Binary Add (whole 9223372036854775807) (whole 1)) ≡ Err faults.Overflow }
-    ensures least_difference { of (Binary Subtract (minus 9223372036854775807) (whole 1)) ≡ Ok (negsuc 9223372036854775807) }
-    ensures difference_outside { of (Binary Subtract (minus 9223372036854775807) (whole 2)) ≡ Err faults.Overflow }
-    ensures negative_outside { of (Negative (Binary Subtract (minus 9223372036854775807) (whole 1))) ≡ Err faults.Overflow }
+    ensures product_outside { of (Binary Multiply (whole 4611686018427387904) (whole 2))
+        ≡ Err faults.Overflow }
+    ensures greatest_sum { of (Binary Add (whole 9223372036854775806) (whole 1))
+        ≡ Ok (pos 9223372036854775807) }
+    ensures sum_outside { of (Binary Add (whole 9223372036854775807) (whole 1))
+        ≡ Err faults.Overflow }
+    ensures least_difference { of (Binary Subtract (minus 9223372036854775807) (whole 1))
+        ≡ Ok (negsuc 9223372036854775807) }
+    ensures difference_outside { of (Binary Subtract (minus 9223372036854775807) (whole 2))
+        ≡ Err faults.Overflow }
+    ensures negative_outside { of (Negative (Binary Subtract (minus 9223372036854775807) (whole 1)))
+        ≡ Err faults.Overflow }
     ensures product_of_signs { of (Binary Multiply (minus 7) (minus 2)) ≡ Ok (pos 14) }
     ensures quotient_by_a_negative { of (Binary Divide (whole 7) (minus 2)) ≡ Ok (negsuc 2) }
     ensures remainder_by_a_negative { of (Binary Remainder (whole 7) (minus 2)) ≡ Ok (pos 1) }
-    ensures remainder_by_zero { of (Binary Remainder (whole 1) (whole 0)) ≡ Err faults.DivisionByZero }
+    ensures remainder_by_zero { of (Binary Remainder (whole 1) (whole 0))
+        ≡ Err faults.DivisionByZero }
     ensures quotient_towards_zero { of (Binary Divide (minus 7) (whole 2)) ≡ Ok (negsuc 2) }
     ensures remainder_of_it { of (Binary Remainder (minus 7) (whole 2)) ≡ Ok (negsuc 0) }
     ensures quotient_by_zero { of one_over_zero ≡ Err faults.DivisionByZero }
-    ensures quotient_outside { of (Binary Divide (Binary Subtract (minus 9223372036854775807) (whole 1)) (minus 1)) ≡ Err faults.Overflow }
-    ensures remainder_inside { of (Binary Remainder (Binary Subtract (minus 9223372036854775807) (whole 1)) (minus 1)) ≡ Ok (pos 0) }
+    ensures quotient_outside { of
+        (Binary Divide (Binary Subtract (minus 9223372036854775807) (whole 1)) (minus 1))
+        ≡ Err faults.Overflow }
+    ensures remainder_inside { of
+        (Binary Remainder (Binary Subtract (minus 9223372036854775807) (whole 1)) (minus 1))
+        ≡ Ok (pos 0) }
     ensures index_outside { of (Cell 1 (whole 2)) ≡ Err faults.IndexOutside }
     ensures index_below { of (Cell 1 (minus 1)) ≡ Err faults.IndexOutside }
     ensures last_cell { of (Cell 1 (whole 1)) ≡ Ok (pos 0) }
@@ -60,5 +71,6 @@ pub fn values_are_lazy()
     ensures or_false { of (Binary Or (Truth false) is_one_over_zero) ≡ Err faults.DivisionByZero }
     ensures and_false { of (Binary And (Truth false) is_one_over_zero) ≡ Ok (pos 0) }
     ensures and_true { of (Binary And (Truth true) (Truth false)) ≡ Ok (pos 0) }
-    ensures left_first { of (Binary Add (Cell 1 (whole 2)) one_over_zero) ≡ Err faults.IndexOutside }
+    ensures left_first { of (Binary Add (Cell 1 (whole 2)) one_over_zero)
+        ≡ Err faults.IndexOutside }
 {}

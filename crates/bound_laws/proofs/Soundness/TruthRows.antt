@@ -15,7 +15,7 @@ use Rattle.model_core.specs.Rules.BoundsHold.{NumberIn, TruthIn, IsIn}
 use Rattle.bound_laws.proofs.Soundness.Promise.{HasShape, NumberShape, TruthShape, BoundsHold}
 use Rattle.bound_laws.proofs.Soundness.Ends.{of_le}
 use Rattle.model_core.proofs.BothTrue.{and_first, and_second}
-use Rattle.model_core.proofs.SameExpressions.{number_told}
+use Rattle.model_core.proofs.SameExpressions.{true-int_eq}
 use Rattle.bound_laws.proofs.Soundness.NumberRows.{two, truth_shape, answers}
 
 or_gap : (a b : Bool) → (a || not b) ≡ true → b ≡ true → a ≡ true
@@ -118,9 +118,9 @@ differ x y e same = let is = of_eq x y same in cc
 equal_numbers-false : (t : Bool) (a b : Bounds) (x y : ℤ) → (int_eq a.lo a.hi && int_eq a.hi b.lo && int_eq b.lo b.hi) ≡ t → NumberIn a x → NumberIn b y → int_eq x y ≡ false → not t ≡ true
 equal_numbers-false false a b x y e i j differ = refl
 equal_numbers-false true a b x y e i j differ =
-    let one = number_told a.lo a.hi (and_first _ _ (and_first _ _ e)) in
-    let two : a.hi ≡ b.lo = number_told a.hi b.lo (and_second (int_eq a.lo a.hi) _ (and_first _ _ e)) in
-    let three : b.lo ≡ b.hi = number_told b.lo b.hi (and_second (int_eq a.lo a.hi && int_eq a.hi b.lo) _ e) in
+    let one = true-int_eq a.lo a.hi (and_first _ _ (and_first _ _ e)) in
+    let two : a.hi ≡ b.lo = true-int_eq a.hi b.lo (and_second (int_eq a.lo a.hi) _ (and_first _ _ e)) in
+    let three : b.lo ≡ b.hi = true-int_eq b.lo b.hi (and_second (int_eq a.lo a.hi && int_eq a.hi b.lo) _ e) in
     let same : x ≡ y = omega (arith, ints) in
     let never = of_eq x y same in cc
 
@@ -128,7 +128,7 @@ equal_numbers : (a b : Bounds) (x y : ℤ) → NumberShape a → NumberIn a x �
 equal_numbers a b x y shape i j =
     rw (shape.not_false, shape.not_true)
     (answers _ _ (a.quiet && b.quiet) (int_eq x y)
-    (λ e. let same : x ≡ y = number_told x y e in and_from _ _ (of_le a.lo b.hi (omega (arith, ints))) (of_le b.lo a.hi (omega (arith, ints))))
+    (λ e. let same : x ≡ y = true-int_eq x y e in and_from _ _ (of_le a.lo b.hi (omega (arith, ints))) (of_le b.lo a.hi (omega (arith, ints))))
     (λ e. equal_numbers-false _ a b x y refl i j e))
 
 equal_quiet : (t q : Bool) (a b c d : Bool) → (cond t (truth_bounds a b q) (truth_bounds c d q)).quiet ≡ q

@@ -20,7 +20,8 @@ use std::alloc::Global;
 
 /// The line that rejects a certificate at this line of it.
 fn rejection_line(alloc: Global, line: usize) -> Result<Text, NoMemory>
-    ensures { IfOk result (λ out. Gives End.Rejected out ≡ answer_of_verdict (verdict_of (Verdict.Rejected line))) }
+    ensures { IfOk result
+        (λ out. Gives End.Rejected out ≡ answer_of_verdict (verdict_of (Verdict.Rejected line))) }
 {
     let mut out = Vec::new(alloc);
     put_counted(&mut out, b"rejected ", line as u64)?;
@@ -50,7 +51,9 @@ fn verdict_answer(alloc: Global, verdict: Verdict) -> Result<Answer, NoMemory>
 
 /// Whether the certificate of the document holds.
 pub fn certify(alloc: Global, document: &Document) -> Result<Answer, NoMemory>
-    ensures { IfOk result (λ a. a ≡ certify_answer (graph_of document.now.original) (map application_of document.now.applications) (graph_of document.now.reduced)) }
+    ensures { IfOk result
+        (λ a. a ≡ certify_answer (graph_of document.now.original)
+        (map application_of document.now.applications) (graph_of document.now.reduced)) }
 {
     let verdict = check_chain(
         alloc,
@@ -64,7 +67,8 @@ pub fn certify(alloc: Global, document: &Document) -> Result<Answer, NoMemory>
 /// The two models of a document whose certificate is found sound mean the same. The function does nothing: what it ensures
 /// holds of all documents.
 pub fn sound_documents_mean_the_same()
-    ensures { (text bytes : List ℕ) → Answers (OfDocument Certify) text (Gives IsDone bytes) → Certifies text }
+    ensures { (text bytes : List ℕ) → Answers (OfDocument Certify) text (Gives IsDone bytes)
+        → Certifies text }
 {
     verdicts_tell_chains();
     documents_have_valid_models();

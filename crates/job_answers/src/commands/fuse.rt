@@ -30,7 +30,8 @@ pub fn fuse(alloc: Global, model: Model) -> Result<Answer, NoMemory>
 /// What `fuse` writes for a text reads back as the model of the text with its duplicated vertices merged, and means the
 /// same. The function does nothing: what it ensures holds of all texts.
 pub fn fused_models_mean_the_same()
-    ensures { (text out : List ℕ) (end : EndOfJob) → Answers (OfModel Fuse) text (Given end out) → RewritesTheSame Fused text out }
+    ensures { (text out : List ℕ) (end : EndOfJob) → Answers (OfModel Fuse) text (Given end out)
+        → RewritesTheSame Fused text out }
 {
     validity_is_by_parts();
     fusing_ends();

@@ -34,7 +34,8 @@ pub fn narrow(alloc: Global, model: Model) -> Result<Answer, NoMemory>
 /// What `narrow` writes for a text reads back as the model of the text with the ranges that it needs, and means the same.
 /// The function does nothing: what it ensures holds of all texts.
 pub fn narrower_models_mean_the_same()
-    ensures { (text out : List ℕ) (end : EndOfJob) → Answers (OfModel Narrow) text (Given end out) → RewritesTheSame IsNarrowed text out }
+    ensures { (text out : List ℕ) (end : EndOfJob) → Answers (OfModel Narrow) text (Given end out)
+        → RewritesTheSame IsNarrowed text out }
 {
     validity_is_by_parts();
     narrowed_models_mean_the_same();

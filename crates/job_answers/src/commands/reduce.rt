@@ -47,7 +47,8 @@ pub fn reduce(alloc: Global, model: Model) -> Result<Answer, NoMemory>
 /// What `reduce` writes for a text reads back as the reduced model, which means the same as the model of the text. The
 /// function does nothing: what it ensures holds of all texts.
 pub fn written_models_mean_the_same()
-    ensures { (text out : List ℕ) (end : EndOfJob) → Answers (OfModel Reduce) text (Given end out) → KeepsMeaning text out }
+    ensures { (text out : List ℕ) (end : EndOfJob) → Answers (OfModel Reduce) text (Given end out)
+        → KeepsMeaning text out }
 {
     validity_is_by_parts();
     strategies_keep_the_meaning();

@@ -41,7 +41,8 @@ fn tally_numbered(
     requires soon { options.now.until ≤ 2 ^ 48 }
     requires budget { options.now.events ≤ 2 ^ 40 }
     requires first { 0 < number }
-    ensures told { IfOk result (λ tally. tally ≡ tally_numbered (graph_of model.now) options.now number) }
+    ensures told { IfOk result
+        (λ tally. tally ≡ tally_numbered (graph_of model.now) options.now number) }
     ensures small { IfOk result (λ tally. All (IsOfRuns 1) tally.items) }
 {
     validity_is_by_parts();
@@ -68,7 +69,8 @@ fn write_run_rows<K: Sink>(
 ) -> Result<(), Failure>
     requires few { totals.old.runs < RUNS_MAX }
     requires small { All (IsOfRuns 1) tally.now.items }
-    ensures written { WritesPieces (run_rows (graph_of model.now) number seed tally.now) result (K.seen output.old) (K.seen output.new) }
+    ensures written { WritesPieces (run_rows (graph_of model.now) number seed tally.now) result
+        (K.seen output.old) (K.seen output.new) }
     ensures added { IfOk result (λ done. totals.new ≡ with_run totals.old tally.now) }
 {
     let rows = run_csv(alloc, model, number, seed, tally)?;
@@ -90,7 +92,9 @@ fn write_all_runs<K: Sink>(
     requires budget { options.now.events ≤ 2 ^ 40 }
     requires few { options.now.runs ≤ RUNS_MAX }
     requires none { totals.runs ≡ 0 }
-    ensures { WritesPieces (rest_of_report (graph_of model.now) options.now totals 1 options.now.runs) result (K.seen output.old) (K.seen output.new) }
+    ensures { WritesPieces
+        (rest_of_report (graph_of model.now) options.now totals 1 options.now.runs) result
+        (K.seen output.old) (K.seen output.new) }
 {
     let mut totals = totals;
     for number in 1..options.runs + 1 {
@@ -116,7 +120,8 @@ fn write_report<K: Sink>(
     requires soon { options.now.until ≤ 2 ^ 48 }
     requires budget { options.now.events ≤ 2 ^ 40 }
     requires few { options.now.runs ≤ RUNS_MAX }
-    ensures { WritesPieces (report (graph_of model.now) options.now) result (K.seen output.old) (K.seen output.new) }
+    ensures { WritesPieces (report (graph_of model.now) options.now) result (K.seen output.old)
+        (K.seen output.new) }
 {
     let totals = Totals::begin(alloc, model)?;
     write_all(output, header_csv(alloc)?.as_slice())?;
@@ -135,7 +140,8 @@ pub fn replicate<K: Sink>(
     requires budget { options.now.events ≤ 2 ^ 40 }
     requires some { 0 < options.now.runs }
     requires few { options.now.runs ≤ RUNS_MAX }
-    ensures { DeliversSome K.seen (λ a. a ≡ replicate_answer (graph_of model.now) options.now) (Unit {0}) result output.old output.new }
+    ensures { DeliversSome K.seen (λ a. a ≡ replicate_answer (graph_of model.now) options.now)
+        (Unit {0}) result output.old output.new }
 {
     validity_is_by_parts();
     kept_models_can_be_run();

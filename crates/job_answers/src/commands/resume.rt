@@ -58,7 +58,8 @@ fn resume_refusal(
 ) -> Result<Option<Text>, NoMemory>
     requires saved { snapshot.now.events ≤ 2 ^ 40 }
     requires budget { options.now.events ≤ 2 ^ 40 }
-    ensures { IfOk result (λ refusal. refusal ≡ resume_refusal snapshot.now options.now.until options.now.events) }
+    ensures { IfOk result
+        (λ refusal. refusal ≡ resume_refusal snapshot.now options.now.until options.now.events) }
 {
     if options.until < snapshot.clock {
         return Ok(Some(below_clock_line(alloc, snapshot.clock)?));
@@ -86,8 +87,11 @@ fn resume_over<P: Pending + Drop, K: Sink>(
     requires made_for { P.vertices pending ≡ length model.now.vertices }
     requires soon { options.now.until ≤ 2 ^ 48 }
     requires allowed { resume_refusal snapshot.now options.now.until options.now.events ≡ None }
-    ensures { DeliversSome K.seen (λ a. a ≡ resume_answer (graph_of model.now) snapshot.now options.now.until options.now.events)
-        (ResumedExceedsRoom (graph_of model.now) snapshot.now options.now) result output.old output.new }
+    ensures { DeliversSome K.seen
+        (λ a. a ≡ resume_answer
+        (graph_of model.now) snapshot.now options.now.until options.now.events)
+        (ResumedExceedsRoom
+        (graph_of model.now) snapshot.now options.now) result output.old output.new }
 {
     validity_is_by_parts();
     kept_models_can_be_run();
@@ -116,8 +120,11 @@ pub fn resume<K: Sink>(
     requires good { IsGood (graph_of model.now) snapshot.now }
     requires soon { options.now.until ≤ 2 ^ 48 }
     requires budget { options.now.events ≤ 2 ^ 40 }
-    ensures { DeliversSome K.seen (λ a. a ≡ resume_answer (graph_of model.now) snapshot.now options.now.until options.now.events)
-        (ResumedExceedsRoom (graph_of model.now) snapshot.now options.now) result output.old output.new }
+    ensures { DeliversSome K.seen
+        (λ a. a ≡ resume_answer
+        (graph_of model.now) snapshot.now options.now.until options.now.events)
+        (ResumedExceedsRoom
+        (graph_of model.now) snapshot.now options.now) result output.old output.new }
 {
     match resume_refusal(alloc, snapshot, options) {
         Ok(Some(line)) => return Ok(DeliveryOutcome::Refused(Refusal::BadStart, line)),
@@ -138,9 +145,12 @@ pub fn resume<K: Sink>(
 /// that begins. Leading zeros of a number and a sign before a zero count for nothing. The function does nothing: what it
 /// ensures holds of all texts.
 pub fn good_snapshots_are_printed_again()
-    ensures { (g : EventGraph) (text : List ℕ) (front behind : List Lexeme) (w : WrittenSnapshot) (at : ℕ) → KeepsStaticRules g → IsSpellable g
+    ensures { (g : EventGraph) (text : List ℕ) (front behind : List Lexeme) (w : WrittenSnapshot)
+        (at : ℕ) → KeepsStaticRules g → IsSpellable g
         → tokens_of text ≡ Ok (front ++ behind) → IsSnapshot behind w → bad_at g w ≡ None
-        → (printed : List Lexeme) × (tokens_from at 0 (snapshot_text g (saved_run g w)) ≡ Ok printed) × (plain_kinds printed ≡ plain_kinds behind) }
+        → (printed : List Lexeme)
+        × (tokens_from at 0 (snapshot_text g (saved_run g w)) ≡ Ok printed)
+        × (plain_kinds printed ≡ plain_kinds behind) }
 {
     saved_runs_read_back();
 }

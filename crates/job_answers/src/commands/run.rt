@@ -26,8 +26,11 @@ pub fn run<K: Sink>(
     requires valid { IsValid (graph_of model.now) }
     requires soon { options.now.until ≤ 2 ^ 48 }
     requires budget { options.now.events ≤ 2 ^ 40 }
-    ensures { DeliversSome K.seen (λ a. a ≡ run_answer (graph_of model.now) options.now.until options.now.seed options.now.events options.now.starts)
-        (ExceedsRoom (graph_of model.now) options.now.until options.now.seed options.now.events options.now.starts options.now.room)
+    ensures { DeliversSome K.seen
+        (λ a. a ≡ run_answer
+        (graph_of model.now) options.now.until options.now.seed options.now.events options.now.starts)
+        (ExceedsRoom
+        (graph_of model.now) options.now.until options.now.seed options.now.events options.now.starts options.now.room)
         result output.old output.new }
 {
     let run = match begin(alloc, model, options.seed, &options.starts, options.room) {

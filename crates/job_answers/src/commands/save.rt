@@ -44,7 +44,9 @@ fn saved_part<'m, P: Pending + Drop>(
     requires soon { options.now.until ≤ 2 ^ 48 }
     requires budget { options.now.events ≤ 2 ^ 40 }
     requires begun { (room : ℕ) × BegunRun model.now options.now.seed options.now.starts room run }
-    ensures { IfOk result (SavedOrFinished (graph_of model.now) options.now.until options.now.seed options.now.events options.now.starts) }
+    ensures { IfOk result
+        (SavedOrFinished
+        (graph_of model.now) options.now.until options.now.seed options.now.events options.now.starts) }
 {
     let mut run = run;
     let mut tracer = Tracer::begin(alloc, model)?;
@@ -93,7 +95,8 @@ fn too_large(alloc: Global) -> Result<Answer, NoMemory>
 /// The document of the model and the snapshot, unless it is too long.
 fn document(alloc: Global, model: &Model, snapshot: &Snapshot) -> Result<Answer, NoMemory>
     requires { IsGood (graph_of model.now) snapshot.now }
-    ensures { IfOk result (λ a. a ≡ unless_too_long (saved_document (graph_of model.now) snapshot.now)) }
+    ensures { IfOk result
+        (λ a. a ≡ unless_too_long (saved_document (graph_of model.now) snapshot.now)) }
 {
     let out = document_text(alloc, model, snapshot)?;
     if out.as_slice().len() <= DOCUMENT_MAX {
@@ -136,7 +139,8 @@ pub fn save<K: Sink>(
     requires soon { options.now.until ≤ 2 ^ 48 }
     requires wide { options.now.seed < 2 ^ 64 }
     requires budget { options.now.events ≤ 2 ^ 40 }
-    ensures { DeliversSome K.seen (λ a. a ≡ save_answer (graph_of model.now) options.now) ⊥ result output.old output.new }
+    ensures { DeliversSome K.seen
+        (λ a. a ≡ save_answer (graph_of model.now) options.now) ⊥ result output.old output.new }
 {
     let run = match begin(alloc, model, options.seed, &options.starts, ROOM) {
         Ok(run) => run,
@@ -148,7 +152,8 @@ pub fn save<K: Sink>(
 /// What `save` writes for a text reads back, and what `resume` answers for that goes on as the whole run does. The function
 /// does nothing: what it ensures holds of all texts.
 pub fn saved_runs_are_resumed()
-    ensures { (o : Options) (text document : List ℕ) (end : EndOfJob) → KeepsLimits (OfModel (Save o))
+    ensures { (o : Options) (text document : List ℕ) (end : EndOfJob)
+        → KeepsLimits (OfModel (Save o))
         → Answers (OfModel (Save o)) text (Gives end document) → SavesTheRun text document o }
 {
     validity_is_by_parts();

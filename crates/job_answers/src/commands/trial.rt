@@ -16,7 +16,8 @@ use trial_report::trial_text;
 /// The summary.
 pub fn trial(alloc: Global, options: &TrialOptions) -> Result<Answer, NoMemory>
     requires { KeepsLimits (Nothing (Trial options.now)) }
-    ensures { IfOk result (IsDone (Summarises options.now.seed options.now.vertices options.now.until options.now.events)) }
+    ensures { IfOk result
+        (IsDone (Summarises options.now.seed options.now.vertices options.now.until options.now.events)) }
 {
     let out = trial_text(
         alloc,

@@ -1,7 +1,7 @@
 -- The elements of a list but the one at a place; and two tests of which the first may decide.
 use Rattle.std.proofs.Common.{◌≡◌, ℕ, zero, suc, ◌+◌, ◌-◌, Bool, true, false, ◌&&◌, List, [], ◌∷◌, ◌++◌, map, take, drop, length, refl, sym, ◌∙◌, ap, arith, length-drop}
 use Rattle.std.proofs.lemmas.List.{take_all}
-use Rattle.model_core.proofs.PlacesChanged.{map-without}
+use Rattle.model_core.proofs.Images.{map-remove}
 use Rattle.std.specs.List.{remove}
 
 next_place : (k : ℕ) → suc k ≡ k + 1
@@ -25,4 +25,4 @@ parts_left view xs k =
     ap (λ ys. map view (take k xs ++ ys)) (take_all (length xs - (k + 1)) (drop (k + 1) xs) (let long = length-drop (k + 1) xs in omega (arith, long)))
     ∙ ap (λ j. map view (take k xs ++ drop j xs)) (sym (next_place k))
     ∙ ap (map view) (sym (taken_out xs k))
-    ∙ map-without view xs k
+    ∙ map-remove view xs k

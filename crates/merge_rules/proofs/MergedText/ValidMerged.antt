@@ -9,9 +9,9 @@ use Rattle.model_core.specs.EventGraph.{EventGraph, EventVertex, EventEdge, Expr
 use Rattle.model_core.specs.Run.Step.{vertex_at, no_vertex}
 use Rattle.model_core.specs.Text.Lexing.{same_bytes}
 use Rattle.model_core.specs.Text.Canonical.{canonical}
-use Rattle.model_core.specs.Text.Spellable.{HasOne, extent, location_openings, expression_openings, openings_together, edge_openings, SpellableLocation, SpellableChange, SpellableEdge, SpellableVertex, SpellableWatched, IsSpellable}
+use Rattle.model_core.specs.Text.Spellable.{IsNonEmpty, extent, location_openings, expression_openings, openings_together, edge_openings, SpellableLocation, SpellableChange, SpellableEdge, SpellableVertex, SpellableWatched, IsSpellable}
 use Rattle.model_core.specs.Static.HasKind.{IsVariable, HasKind}
-use Rattle.model_core.specs.Static.OwnRules.{TakeCarried, KeepsEdge, KeepsVertex, IsWatchable, parameters_of, KeepsParts, KeepsStaticRules}
+use Rattle.model_core.specs.Static.OwnRules.{CarriedFitKinds, KeepsEdge, KeepsVertex, IsWatchable, parameters_of, KeepsParts, KeepsStaticRules}
 use Rattle.model_core.specs.Rules.UrgentEdges.{plain_urgent}
 use Rattle.model_core.specs.Rules.Merge.{set_parameters, merged_vertex, merged_with, values_at_once, merged, has_few_parts}
 use Rattle.model_core.proofs.BothTrue.{and_first, and_second}
@@ -121,18 +121,18 @@ module _ (g : EventGraph) (keeps : KeepsParts g) (first second : ℕ) (h : Merge
   no_openings [] = refl
   no_openings (p ∷ ps) = let later = no_openings ps in omega (arith, later)
 
-  has_one_given : (p : ℕ) (ps : List ℕ) (values : List Expression) → TakeCarried g.variables (length g.tables) (parameters_of g) (p ∷ ps) values → HasOne values
+  has_one_given : (p : ℕ) (ps : List ℕ) (values : List Expression) → CarriedFitKinds g.variables (length g.tables) (parameters_of g) (p ∷ ps) values → IsNonEmpty values
   has_one_given p ps values carried = by_kinds carried.kinds values carried.taken carried.given where
-    by_kinds : (ks : List Kind) (values : List Expression) → AllZip (λ v kind. IsVariable g.variables v false kind) (p ∷ ps) ks → AllZip (HasKind g.variables) values ks → HasOne values
+    by_kinds : (ks : List Kind) (values : List Expression) → AllZip (λ v kind. IsVariable g.variables v false kind) (p ∷ ps) ks → AllZip (HasKind g.variables) values ks → IsNonEmpty values
     by_kinds [] values taken given = absurd taken
     by_kinds (k ∷ ks) [] taken given = absurd given
     by_kinds (k ∷ ks) (v ∷ vs) taken given = tt
 
-  few_given : (values : List Expression) → HasOne values → edge_openings (urgent_edge second values) ≤ OPENINGS_MAX → openings_together expression_openings values ≤ OPENINGS_MAX
+  few_given : (values : List Expression) → IsNonEmpty values → edge_openings (urgent_edge second values) ≤ OPENINGS_MAX → openings_together expression_openings values ≤ OPENINGS_MAX
   few_given [] one few = absurd one
   few_given (v ∷ vs) one few = omega (arith, few)
 
-  set_spellable : (ps : List ℕ) (values : List Expression) → AllByRecursion (λ p. p < (extent g).variables) ps → TakeCarried g.variables (length g.tables) (parameters_of g) ps values → SpellableEdge (extent g) (urgent_edge second values) → AllByRecursion (SpellableChange (extent g)) (set_parameters ps values)
+  set_spellable : (ps : List ℕ) (values : List Expression) → AllByRecursion (λ p. p < (extent g).variables) ps → CarriedFitKinds g.variables (length g.tables) (parameters_of g) ps values → SpellableEdge (extent g) (urgent_edge second values) → AllByRecursion (SpellableChange (extent g)) (set_parameters ps values)
   set_spellable [] values all carried edge = tt
   set_spellable (p ∷ ps) values all carried edge =
       let one = has_one_given p ps values carried in

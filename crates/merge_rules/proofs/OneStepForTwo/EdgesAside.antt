@@ -5,7 +5,7 @@ use Rattle.std.proofs.lemmas.List.{map-id}
 use Rattle.model_core.specs.EventGraph.{EventGraph, EventEdge, EdgeKind, Schedule, Urgent, CancelNext, CancelEqual, CancelAll, Expression, Truth}
 use Rattle.model_core.specs.Run.State.{State}
 use Rattle.model_core.specs.Run.Value.{OrFault, ◌>>=◌, in_turn, value_of, is_one}
-use Rattle.model_core.specs.Run.Pending.{Entry, is_of, is_with, same_values, without_next}
+use Rattle.model_core.specs.Run.Pending.{Entry, is_of, is_event_with, same_values, without_next}
 use Rattle.model_core.specs.Run.Edges.{EdgeState, delay_of, carried_values, act, treat_edge}
 use Rattle.std.specs.List.{AllByRecursion}
 use Rattle.model_core.proofs.EachOne.{every-append}
@@ -54,7 +54,7 @@ module _ (g : EventGraph) (seed : ℕ) (s : State) (clk vertex : ℕ) (values : 
   act-pair e CancelNext aside xs ys taken i due = both_go (taken-pair (is_of e.target) aside xs ys taken i due)
   act-pair e CancelEqual aside xs ys taken i due =
       bind-alongside-same (Pair b) (carried_values g s clk e) _ _ (λ carried c.
-      both_go (taken-pair (is_with e.target carried) (ap (λ b. b && same_values values carried) aside) xs ys taken i due))
+      both_go (taken-pair (is_event_with e.target carried) (ap (λ b. b && same_values values carried) aside) xs ys taken i due))
   act-pair e CancelAll aside xs ys taken i due =
       both_go (record { taken = refl; inserted = without_all-inserted b (is_of e.target) aside i; due = without_all-every (DueBefore b) (is_of e.target) xs due })
 

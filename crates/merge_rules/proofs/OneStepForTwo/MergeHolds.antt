@@ -8,7 +8,7 @@ use Rattle.model_core.specs.declared.model.Kind.{Kind}
 use Rattle.model_core.specs.EventGraph.{EventGraph, Variable, EventVertex, EventEdge, EdgeKind, Schedule, Urgent, CancelNext, CancelEqual, CancelAll, Expression, scalar_location, has_drawn_delay}
 use Rattle.model_core.specs.Run.Step.{vertex_at, no_vertex}
 use Rattle.model_core.specs.Static.HasKind.{IsVariable, HasKind}
-use Rattle.model_core.specs.Static.OwnRules.{TakesKind, TakeCarried, KeepsEdge, KeepsChange, KeepsVertex, KeepsParts, parameters_of}
+use Rattle.model_core.specs.Static.OwnRules.{IsLocationOfKind, CarriedFitKinds, KeepsEdge, KeepsChange, KeepsVertex, KeepsParts, parameters_of}
 use Rattle.model_core.specs.Rules.BoundsOfParts.{quiet_edge}
 use Rattle.model_core.specs.Rules.Conditions.{first_failed}
 use Rattle.model_core.specs.Rules.Uses.{vertex_writes}
@@ -103,13 +103,13 @@ shown_at f (x ∷ xs) (suc k) d y e = shown_at f xs k d y e
 -- ---- the `set` of parameters keeps the rules
 
 module _ (variables : List Variable) (tables : ℕ) (takes : List (List ℕ)) where
-  set_taken : (ps : List ℕ) (ks : List Kind) → AllZip (λ v kind. IsVariable variables v false kind) ps ks → AllZip (TakesKind variables tables takes) (map scalar_location ps) ks
+  set_taken : (ps : List ℕ) (ks : List Kind) → AllZip (λ v kind. IsVariable variables v false kind) ps ks → AllZip (IsLocationOfKind variables tables takes) (map scalar_location ps) ks
   set_taken [] [] all = all
   set_taken [] (k ∷ ks) all = absurd all
   set_taken (p ∷ ps) [] all = absurd all
   set_taken (p ∷ ps) (k ∷ ks) (here, all) = (here, set_taken ps ks all)
 
-  pub set_keeps : (ps : List ℕ) (values : List Expression) → length ps ≤ PARAMETERS_MAX → TakeCarried variables tables takes ps values → AllByRecursion (KeepsChange variables tables takes) (set_parameters ps values)
+  pub set_keeps : (ps : List ℕ) (values : List Expression) → length ps ≤ PARAMETERS_MAX → CarriedFitKinds variables tables takes ps values → AllByRecursion (KeepsChange variables tables takes) (set_parameters ps values)
   set_keeps [] values few carried = tt
   set_keeps (p ∷ ps) values few carried =
       let same = length-map (p ∷ ps) scalar_location in
@@ -120,7 +120,7 @@ module _ (variables : List Variable) (tables : ℕ) (takes : List (List ℕ)) wh
   none_given (v ∷ vs) [] taken given = absurd given
   none_given (v ∷ vs) (k ∷ ks) taken given = absurd taken
 
-  pub carries_none : (ps : List ℕ) (values : List Expression) → TakeCarried variables tables takes ps values → ps ≡ [] → values ≡ []
+  pub carries_none : (ps : List ℕ) (values : List Expression) → CarriedFitKinds variables tables takes ps values → ps ≡ [] → values ≡ []
   carries_none [] values carried e = none_given values carried.kinds carried.taken carried.given
   carries_none (p ∷ ps) values carried e = cc
 
@@ -161,8 +161,8 @@ module _ (g : EventGraph) (keeps : KeepsParts g) (first second : ℕ) (h : Merge
   pub parameters_are : b.parameters ≡ edge_keeps_rules.parameters
   parameters_are = shown_at (λ (v : EventVertex). v.parameters) g.vertices second no_vertex edge_keeps_rules.parameters edge_keeps_rules.target
 
-  pub carried : TakeCarried g.variables (length g.tables) (parameters_of g) b.parameters h.edge.values
-  carried = subst (λ ps. TakeCarried g.variables (length g.tables) (parameters_of g) ps h.edge.values) (sym parameters_are) edge_keeps_rules.carries
+  pub carried : CarriedFitKinds g.variables (length g.tables) (parameters_of g) b.parameters h.edge.values
+  carried = subst (λ ps. CarriedFitKinds g.variables (length g.tables) (parameters_of g) ps h.edge.values) (sym parameters_are) edge_keeps_rules.carries
 
   pub few_parameters : length b.parameters ≤ PARAMETERS_MAX
   few_parameters = at_each_place (λ (v : EventVertex). length v.parameters ≤ PARAMETERS_MAX) (omega arith) g.vertices (every-map (KeepsVertex g.variables (length g.tables) (parameters_of g)) _ (λ v keep. keep.few_parameters) g.vertices keeps.vertices) second

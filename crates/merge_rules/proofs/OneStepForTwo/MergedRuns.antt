@@ -8,7 +8,7 @@ use Rattle.model_core.specs.Run.Value.{OrFault, each, value_of}
 use Rattle.model_core.specs.Run.Pending.{EntryAndRest, next_entry}
 use Rattle.model_core.specs.Run.Step.{Configuration, no_vertex, vertex_at, occur, faulted_at, step}
 use Rattle.model_core.specs.Run.Machine.{Note, Ended, Stopped, Faulted, Move, Rests, Fails, Goes}
-use Rattle.model_core.specs.Run.History.{Moment, Noting, leave, noting_before_event, completed, stepped, comes, next_move, start, look}
+use Rattle.model_core.specs.Run.History.{Moment, NotesAndNoted, leave, noting_before_event, completed, stepped, comes, next_move, start, look}
 use Rattle.model_core.specs.Run.Same.{SameLooks}
 use Rattle.run_laws.proofs.Simulation.{rests, fails, goes, Joined, one, two_fail, two_go, two_for_one}
 use Rattle.run_laws.proofs.EdgesAlike.{with_vertices}
@@ -43,14 +43,14 @@ module _ (g : EventGraph) (seed first second : ℕ) (rights : List Expression) (
   second-next : (c : Configuration) (n : EntryAndRest) (noted : Option (List (List ℤ))) → next_entry c.pending ≡ Some n → n.entry.vertex ≡ second → n.entry.time ≡ c.clock → nat_lt until n.entry.time ≡ false → (r : OrFault Configuration) → occur g seed (vertex_at g second) n c.state c.taken ≡ r → f (record { now = c; noted = noted }) ≡ stepped g second (record { notes = []; noted = noted }) (faulted_at n.entry.time r)
   second-next c n noted next vertex time in_time r is =
       let m : Moment = record { now = c; noted = noted } in
-      let left : Noting = record { notes = []; noted = noted } in
+      let left : NotesAndNoted = record { notes = []; noted = noted } in
       ap (comes g seed until m) next ∙
       (ap (λ b. cond b (Rests (leave g m).notes Stopped) (stepped g n.entry.vertex (noting_before_event g m n.entry.time) (step g seed c n))) in_time ∙
       (ap (λ b. stepped g n.entry.vertex (cond b (leave g m) left) (step g seed c n)) (not_below c.clock n.entry.time (sym time)) ∙
       (ap (λ v. stepped g v left (faulted_at n.entry.time (occur g seed (vertex_at g v) n c.state c.taken))) vertex ∙
       ap (λ (r : OrFault Configuration). stepped g second left (faulted_at n.entry.time r)) is)))
 
-  split-joined : (vertex t : ℕ) → (vertex == first) ≡ true → nat_lt until t ≡ false → (left : Noting) (x y : OrFault Configuration) → Split g seed second rights t x y → ((c : Configuration) → x ≡ Ok c → Inv c) → Joined f Level (stepped g vertex left (faulted_at t x)) (stepped h vertex left (faulted_at t y))
+  split-joined : (vertex t : ℕ) → (vertex == first) ≡ true → nat_lt until t ≡ false → (left : NotesAndNoted) (x y : OrFault Configuration) → Split g seed second rights t x y → ((c : Configuration) → x ≡ Ok c → Inv c) → Joined f Level (stepped g vertex left (faulted_at t x)) (stepped h vertex left (faulted_at t y))
   split-joined vertex t is_first in_time left x y (faults k) inv = one (fails left.notes (Faulted t k))
   split-joined vertex t is_first in_time left x y (goes_on c n clock are next to_second time r then) inv = second-step r then where
     m1 : Moment
@@ -78,7 +78,7 @@ module _ (g : EventGraph) (seed first second : ℕ) (rights : List Expression) (
         (two_go (left.notes ++ completed g vertex c) (completed g second d) m1 m2 m2 (goes-to (Ok d) then) (refl, inv2))
 
   -- another event: the same move
-  same-joined : (vertex t : ℕ) (left : Noting) (x : OrFault Configuration) → ((c : Configuration) → x ≡ Ok c → Inv c) → Joined f Level (stepped g vertex left (faulted_at t x)) (stepped h vertex left (faulted_at t x))
+  same-joined : (vertex t : ℕ) (left : NotesAndNoted) (x : OrFault Configuration) → ((c : Configuration) → x ≡ Ok c → Inv c) → Joined f Level (stepped g vertex left (faulted_at t x)) (stepped h vertex left (faulted_at t x))
   same-joined vertex t left (Ok c) inv = one (goes (left.notes ++ completed g vertex c) (refl, inv c refl))
   same-joined vertex t left (Err k) inv = one (fails left.notes (Faulted t k))
 

@@ -2,7 +2,7 @@
 use Rattle.std.specs.Prelude.{◌≡◌, ◌≢◌, ℕ, ◌==◌, Bool, true, ◌&&◌, List, Option, Some, slice_get, Result, Ok, Err}
 use Rattle.std.specs.List.{count_by, remove}
 use Rattle.model_core.specs.EventGraph.{EventGraph}
-use Rattle.model_core.specs.Run.Pending.{Entry, is_with}
+use Rattle.model_core.specs.Run.Pending.{Entry, is_event_with}
 use Rattle.model_core.specs.Run.Step.{Configuration, Fault}
 use Rattle.model_core.specs.Rules.MarkedPlaces.{is_among, place_without}
 use Rattle.model_core.specs.Conflicts.Priorities.{priorities_of}
@@ -24,7 +24,7 @@ pub record Simultaneous (g : EventGraph) (pending : List Entry) (first second : 
 
 -- equal entries
 abbrev pub same_entry : Entry → Entry → Bool
-same_entry a b = (a.time == b.time) && (a.priority == b.priority) && is_with a.vertex a.values b
+same_entry a b = (a.time == b.time) && (a.priority == b.priority) && is_event_with a.vertex a.values b
 
 -- how often a list holds an entry
 abbrev pub times_pending : Entry → List Entry → ℕ

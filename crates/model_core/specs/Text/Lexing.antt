@@ -9,8 +9,8 @@ use Rattle.model_core.specs.declared.token.Word.TheVariants as words
 use Rattle.model_core.specs.declared.token.Symbol.{Symbol}
 use Rattle.model_core.specs.declared.token.Symbol.TheVariants as symbols
 
--- what a token is: a name with its bytes, a reserved word, a number or nothing above 2^63 - 1, beside what its digits write
--- however great, or a symbol
+-- what a token is: a name with its bytes, a reserved word, a number or a symbol. A number has its value if that is below 2^63,
+-- and then the number that its digits write, however large
 pub data LexemeKind : Type 0 where
   NameOf : List ℕ → LexemeKind
   Reserved : Word → LexemeKind
@@ -122,14 +122,14 @@ after_front at (Longest n kind) (Ok later) = Ok (record { from = at; to = at + n
 after_front at (Longest n kind) (Err place) = Err place
 after_front at Neither later = Err at
 
--- A text from the place `at` on, whose first `inside` bytes belong to what began before, cut front by front: what it begins
--- with comes before what the rest gives, up to the end or to a byte that begins no token.
+-- The tokens of a text from the place `at` on, or the place of its first byte that begins no token. Its first `inside` bytes
+-- belong to the front before it and are passed over; then comes the front there, and the tokens of the rest.
 abbrev pub tokens_from : ℕ → ℕ → List ℕ → Result (List Lexeme) ℕ
 tokens_from at inside [] = Ok []
 tokens_from at (suc inside) (c ∷ s) = tokens_from (at + 1) inside s
 tokens_from at zero (c ∷ s) = after_front at (front c s) (tokens_from (at + 1) (front_length (front c s) - 1) s)
 
--- The tokens of a text, or the place of its first byte that begins no token: that into which it is cut, by the law
+-- The tokens of a text, or the place of its first byte that begins no token. A text is cut into just this, by the law
 -- `texts_are_cut` of `model_lex`.
 abbrev pub tokens_of : List ℕ → Result (List Lexeme) ℕ
 tokens_of text = tokens_from 0 0 text

@@ -5,7 +5,7 @@ use Rattle.std.specs.Option.{option_map_or}
 use Rattle.model_core.specs.EventGraph.{EventGraph, EventEdge, Delay, Fixed, Drawn, EdgeKind, Schedule, Urgent, CancelNext, CancelEqual, CancelAll, delay_given}
 use Rattle.model_core.specs.Run.State.{State}
 use Rattle.model_core.specs.Run.Value.{OrFault, ◌>>=◌, is_one}
-use Rattle.model_core.specs.Run.Pending.{is_with, without_next}
+use Rattle.model_core.specs.Run.Pending.{is_event_with, without_next}
 use Rattle.model_core.specs.Run.Edges.{EdgeState, Waiting, delay_ticks, delay_of, scheduled, act, treat_edge}
 use Rattle.model_core.specs.Rules.Uses.{variables_in, delay_reads, edge_reads}
 use Rattle.model_core.proofs.EachOne.{every-front, every-after, every-flat_map}
@@ -27,7 +27,7 @@ module _ (g : EventGraph) (seed : ℕ) (s t : State) (clk : ℕ) where
       ap (λ (vs : OrFault (List ℤ)). vs >>= λ values. let q : OrFault EdgeState = Ok (record p { pending = scheduled clk 0 e.target p.pending values }) in q) (values-held g s t clk e.values values)
   act-held e CancelNext reads values p = refl
   act-held e CancelEqual reads values p =
-      ap (λ (vs : OrFault (List ℤ)). vs >>= λ values. let q : OrFault EdgeState = Ok (record p { pending = without_next (is_with e.target values) p.pending }) in q) (values-held g s t clk e.values values)
+      ap (λ (vs : OrFault (List ℤ)). vs >>= λ values. let q : OrFault EdgeState = Ok (record p { pending = without_next (is_event_with e.target values) p.pending }) in q) (values-held g s t clk e.values values)
   act-held e CancelAll reads values p = refl
 
   pub treat_edge-held : (e : EventEdge) → AllHold (edge_reads e) → (p : EdgeState) → treat_edge g seed s clk e p ≡ treat_edge g seed t clk e p

@@ -17,7 +17,7 @@ use Rattle.model_core.specs.Static.Meanings.{Meaning, AsScalar, AsArray, AsTable
 use Rattle.model_core.specs.Static.RuleTable.{value_count, kind_mismatch, number_too_large, literal_too_large, empty_range, draw_outside, stream_outside, too_many}
 use Rattle.model_core.specs.Static.PartFaults.{use_faults, operand_faults, values_faults, target_kind, target_faults, choice_faults, source_faults, change_faults}
 use Rattle.model_core.specs.Static.HasKind.{HasKind}
-use Rattle.model_core.specs.Static.OwnRules.{TakesKind, KeepsChoice, KeepsSource, KeepsChange}
+use Rattle.model_core.specs.Static.OwnRules.{IsLocationOfKind, KeepsChoice, KeepsSource, KeepsChange}
 use Rattle.model_core.proofs.EmptyLists.{left_empty, right_empty}
 use Rattle.static_laws.proofs.StaticTwins.MadeOf.{of_one, of_two, of_each, each_cons, each_length}
 use Rattle.static_laws.proofs.StaticTwins.Twins.{both_empty, Twin, twin_map, twin_two, twin_then}
@@ -34,7 +34,7 @@ module _ (means : List ℕ → Option Meaning) (d : Declared) (variables : List 
     pub kind : Kind
     pub is : numbering.location d t ≡ Some location
     pub known : target_kind means t ≡ Some kind
-    pub takes_kind : TakesKind variables tables takes location kind
+    pub takes_kind : IsLocationOfKind variables tables takes location kind
 
   abbrev target_written : ℕ → WrittenName → Option WrittenExpression → WrittenTarget
   target_written at n index = record { at = at; name = n; index = index }
@@ -58,24 +58,24 @@ module _ (means : List ℕ → Option Meaning) (d : Declared) (variables : List 
   abbrev location_made : ℕ → Option Expression → Location
   location_made v i = record { variable = v; index = i }
 
-  unbroken_with : (at : ℕ) (n : WrittenName) (index : Option WrittenExpression) (l : Location) (kind : Kind) → numbering.location d (target_written at n index) ≡ Some l → TakesKind variables tables takes l kind → TargetUnbroken (target_written at n index) kind
+  unbroken_with : (at : ℕ) (n : WrittenName) (index : Option WrittenExpression) (l : Location) (kind : Kind) → numbering.location d (target_written at n index) ≡ Some l → IsLocationOfKind variables tables takes l kind → TargetUnbroken (target_written at n index) kind
   unbroken_with at n None l kind s k =
       let p = of_two location_made (declared_place n.name d.variables) (Some None) l s in
-      let shape = subst (λ (x : Location). TakesKind variables tables takes x kind) (sym p.made) k in
+      let shape = subst (λ (x : Location). IsLocationOfKind variables tables takes x kind) (sym p.made) k in
       let none : p.b ≡ None = sym (same_Some None p.b p.is_b) in
-      let u = variable_unbroken means d variables tables vertices agree false n p.a kind p.is_a (subst (λ i. TakesKind variables tables takes (location_made p.a i) kind) none shape) in
+      let u = variable_unbroken means d variables tables vertices agree false n p.a kind p.is_a (subst (λ i. IsLocationOfKind variables tables takes (location_made p.a i) kind) none shape) in
       record { none = both_empty (use_faults means AsScalar n) [] u.0 refl; known = u.1 }
   unbroken_with at n (Some e) l kind s k =
       let p = of_two location_made (declared_place n.name d.variables) (option_map Some (numbering.expression d e)) l s in
       let q = of_one Some (numbering.expression d e) p.b p.is_b in
-      let shape = subst (λ i. TakesKind variables tables takes (location_made p.a i) kind) (sym q.made) (subst (λ (x : Location). TakesKind variables tables takes x kind) (sym p.made) k) in
+      let shape = subst (λ i. IsLocationOfKind variables tables takes (location_made p.a i) kind) (sym q.made) (subst (λ (x : Location). IsLocationOfKind variables tables takes x kind) (sym p.made) k) in
       let u = variable_unbroken means d variables tables vertices agree true n p.a kind p.is_a shape.0 in
       record {
         none = both_empty (use_faults means AsArray n) (operand_faults means (Some kinds.Range) e) u.0 ((operand_twin means d variables tables vertices agree kinds.Range e).unbroken q.a q.is_a shape.1);
         known = u.1;
       }
 
-  target_unbroken : (t : WrittenTarget) (l : Location) (kind : Kind) → numbering.location d t ≡ Some l → TakesKind variables tables takes l kind → TargetUnbroken t kind
+  target_unbroken : (t : WrittenTarget) (l : Location) (kind : Kind) → numbering.location d t ≡ Some l → IsLocationOfKind variables tables takes l kind → TargetUnbroken t kind
   target_unbroken t l kind s k = unbroken_with t.at t.name t.index l kind s k
 
   -- ---- `set`
@@ -86,7 +86,7 @@ module _ (means : List ℕ → Option Meaning) (d : Declared) (variables : List 
     are : each_numbered (numbering.location d) targets ≡ Some locations
     known : map (target_kind means) targets ≡ map Some kinds
     count : length kinds ≡ length targets
-    taken : AllZip (TakesKind variables tables takes) locations kinds
+    taken : AllZip (IsLocationOfKind variables tables takes) locations kinds
 
   targets_kept : (targets : List WrittenTarget) → flat_map (target_faults means) targets ≡ [] → TargetsKept targets
   targets_kept [] e = record { locations = []; kinds = []; are = refl; known = refl; count = refl; taken = tt }
@@ -107,18 +107,18 @@ module _ (means : List ℕ → Option Meaning) (d : Declared) (variables : List 
     known : map (target_kind means) targets ≡ map Some kinds
     count : length kinds ≡ length targets
 
-  targets_unbroken : (targets : List WrittenTarget) (ls : List Location) (ks : List Kind) → each_numbered (numbering.location d) targets ≡ Some ls → AllZip (TakesKind variables tables takes) ls ks → TargetsUnbroken targets ks
-  targets_unbroken [] ls ks s z = none_left ks (subst (λ xs. AllZip (TakesKind variables tables takes) xs ks) (sym (same_Some [] ls s)) z)
+  targets_unbroken : (targets : List WrittenTarget) (ls : List Location) (ks : List Kind) → each_numbered (numbering.location d) targets ≡ Some ls → AllZip (IsLocationOfKind variables tables takes) ls ks → TargetsUnbroken targets ks
+  targets_unbroken [] ls ks s z = none_left ks (subst (λ xs. AllZip (IsLocationOfKind variables tables takes) xs ks) (sym (same_Some [] ls s)) z)
     where
-      none_left : (ks : List Kind) → AllZip (TakesKind variables tables takes) [] ks → TargetsUnbroken [] ks
+      none_left : (ks : List Kind) → AllZip (IsLocationOfKind variables tables takes) [] ks → TargetsUnbroken [] ks
       none_left [] z = record { none = refl; known = refl; count = refl }
       none_left (k ∷ ks) z = absurd z
   targets_unbroken (t ∷ ts) ls ks s z =
       let p = of_each (numbering.location d) t ts ls s in
-      by_kinds p.a p.b p.is_a ks (subst (λ xs. AllZip (TakesKind variables tables takes) xs ks) (sym p.made) z) (λ js y. targets_unbroken ts p.b js p.is_b y)
+      by_kinds p.a p.b p.is_a ks (subst (λ xs. AllZip (IsLocationOfKind variables tables takes) xs ks) (sym p.made) z) (λ js y. targets_unbroken ts p.b js p.is_b y)
     where
-      by_kinds : (l : Location) (rest : List Location) → numbering.location d t ≡ Some l → (ks : List Kind) → AllZip (TakesKind variables tables takes) (l ∷ rest) ks
-          → ((js : List Kind) → AllZip (TakesKind variables tables takes) rest js → TargetsUnbroken ts js) → TargetsUnbroken (t ∷ ts) ks
+      by_kinds : (l : Location) (rest : List Location) → numbering.location d t ≡ Some l → (ks : List Kind) → AllZip (IsLocationOfKind variables tables takes) (l ∷ rest) ks
+          → ((js : List Kind) → AllZip (IsLocationOfKind variables tables takes) rest js → TargetsUnbroken ts js) → TargetsUnbroken (t ∷ ts) ks
       by_kinds l rest is_l [] z later = absurd z
       by_kinds l rest is_l (k ∷ ks) z later =
           let u = target_unbroken t l k is_l z.0 in
@@ -166,12 +166,12 @@ module _ (means : List ℕ → Option Meaning) (d : Declared) (variables : List 
 
   -- ---- `draw`
 
-  drawn_twin : (t : WrittenTarget) (at : ℕ) → Twin (target_faults means t ++ kind_mismatch (Some kinds.Range) (target_kind means t) at) (numbering.location d t) (λ l. TakesKind variables tables takes l kinds.Range)
+  drawn_twin : (t : WrittenTarget) (at : ℕ) → Twin (target_faults means t ++ kind_mismatch (Some kinds.Range) (target_kind means t) at) (numbering.location d t) (λ l. IsLocationOfKind variables tables takes l kinds.Range)
   drawn_twin t at = record {
     kept = λ e.
         let k = target_kept t (left_empty (target_faults means t) _ e) in
         let same = (by_kind (target_kind means t) k.kind k.known).0 (right_empty (target_faults means t) _ e) in
-        (k.location, k.is, subst (TakesKind variables tables takes k.location) (sym same) k.takes_kind);
+        (k.location, k.is, subst (IsLocationOfKind variables tables takes k.location) (sym same) k.takes_kind);
     unbroken = λ l s q. let u = target_unbroken t l kinds.Range s q in both_empty (target_faults means t) _ u.none ((by_kind (target_kind means t) kinds.Range u.known).1 refl);
   }
     where

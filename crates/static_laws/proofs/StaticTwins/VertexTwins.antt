@@ -19,7 +19,7 @@ use Rattle.model_core.specs.Static.Meanings.{Meaning, MeansVertex, AsScalar, AsV
 use Rattle.model_core.specs.Static.RuleTable.{name_too_long, value_count, too_many}
 use Rattle.model_core.specs.Static.PartFaults.{if_written, written_items, repeated_names, change_place, use_faults, operand_faults, values_faults, count_faults, priority_faults, change_faults, parameter_kind, kinds_taken, target_takes, carried_faults, delay_faults, schedule_faults, edge_faults, parameters_faults, vertex_faults}
 use Rattle.model_core.specs.Static.HasKind.{IsVariable, HasKind}
-use Rattle.model_core.specs.Static.OwnRules.{TakeCarried, CarriesValues, KeepsDelay, KeepsTiming, KeepsEdge, KeepsVertex, KeepsChange}
+use Rattle.model_core.specs.Static.OwnRules.{CarriedFitKinds, CarriesValues, KeepsDelay, KeepsTiming, KeepsEdge, KeepsVertex, KeepsChange}
 use Rattle.model_core.proofs.EmptyLists.{left_empty, right_empty}
 use Rattle.static_laws.proofs.StaticTwins.MadeOf.{of_two, of_three, of_four, of_each, each_length}
 use Rattle.static_laws.proofs.StaticTwins.Zips.{zip_length}
@@ -160,7 +160,7 @@ module _ (means : List ℕ → Option Meaning) (d : Declared) (variables : List 
       abbrev given : ℕ
       given = length (written_items o)
 
-      carried_twin : Twin (value_count (length (map Some ks)) given at ++ values_faults means (map Some ks) (written_items o)) (written_or (each_numbered (numbering.expression d)) [] o) (TakeCarried variables tables takes ps)
+      carried_twin : Twin (value_count (length (map Some ks)) given at ++ values_faults means (map Some ks) (written_items o)) (written_or (each_numbered (numbering.expression d)) [] o) (CarriedFitKinds variables tables takes ps)
       carried_twin = record {
         kept = λ e.
             let same = sym (length-map ks (λ k. Some k)) ∙ (same_count (length (map Some ks)) given at).0 (left_empty (value_count (length (map Some ks)) given at) (values_faults means (map Some ks) (written_items o)) e) in

@@ -7,7 +7,7 @@ use Rattle.model_core.specs.declared.vertex.Edge.{Edge}
 use Rattle.model_core.specs.EventGraph.{StateChange, EventEdge, Expression}
 use Rattle.model_core.specs.Rules.Merge.{set_parameters}
 use Rattle.model_core.specs.Code.Views.{change_of, edge_of, expression_of}
-use Rattle.model_core.proofs.PlacesChanged.{map-without}
+use Rattle.model_core.proofs.Images.{map-remove}
 use Rattle.merge_rules.proofs.MergedText.LimitsTold.{seen_at}
 use Rattle.merge_rules.proofs.taking_over.put_in_place.Goals as goal
 
@@ -25,4 +25,4 @@ pub returns-clause-edges : goal.returns-clause-edges
 returns-clause-edges c =
     ap (map edge_of) (c.add_all-2.ensures ∙ ap (λ (es : List Edge). c.remove-edge.new.self.items ++ es) c.into_parts-params.ensures.edges)
     ∙ map-append edge_of c.remove-edge.new.self.items c.args.other.edges
-    ∙ ap (λ (es : List EventEdge). es ++ map edge_of c.args.other.edges) (ap (map edge_of) c.remove-edge.ensures.items ∙ map-without edge_of c.args.edges.now.items c.args.place)
+    ∙ ap (λ (es : List EventEdge). es ++ map edge_of c.args.other.edges) (ap (map edge_of) c.remove-edge.ensures.items ∙ map-remove edge_of c.args.edges.now.items c.args.place)
