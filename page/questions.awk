@@ -28,7 +28,7 @@ function quoted(text) {
     next
 }
 
-# A question stands before the first command on its model.
+# A question comes before the first command on its model.
 /^\*\*The .*\*\* \*/ {
     question = $0
     sub(/^\*\*[^*]*\*\* \*/, "", question)

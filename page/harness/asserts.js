@@ -3,7 +3,7 @@
 // docs/use/model-text.md that is refused: the text, the byte and what is said), `large` (a model of 500 vertices).
 const held = [];
 
-// check(name, yes, more): one thing that must hold. `more` is told where it doesn't.
+// check(name, yes, more): one thing that must hold. If it doesn't, `more` is shown.
 const check = (name, yes, more = "") => {
   held.push([name, Boolean(yes), yes ? "" : (typeof more === "string" ? more : JSON.stringify(more) ?? "").slice(0, 600)]);
   return Boolean(yes);

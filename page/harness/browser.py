@@ -13,7 +13,7 @@ class Failed(Exception):
 
 
 class Browser:
-    """A browser without a window, which begins with `begin` and ends with `quit`. Those that stand on this have `begin`, `open`,
+    """A browser without a window, which begins with `begin` and ends with `quit`. Its subclasses have `begin`, `open`,
     `size`, `scheme`, `shot`, `give_files`, `_evaluate`, `_pointer` and `_key`."""
 
     command = None  # the command by which it is started
@@ -29,7 +29,7 @@ class Browser:
         return shutil.which(cls.command) is not None
 
     def start(self, words):
-        # A profile of its own, and nobody's home.
+        # A profile of its own, and no user's home.
         environment = {**os.environ, "HOME": self.room}
         log = open(f"{self.room}/log", "wb")
         self.process = subprocess.Popen([self.command, *words], stdin=subprocess.DEVNULL, stdout=log, stderr=log, env=environment)

@@ -21,7 +21,7 @@ def native(words, given):
 
 
 def unescaped(text):
-    r"""The bytes that a line of a case stands for, with those that are written as \t, \r and \xHH. A last \ stands for no line end."""
+    r"""The bytes that a line of a case means: \t, \r and \xHH are bytes, and a \ at the end of the line means that it has no line feed."""
     out, place, line = bytearray(), 0, text.encode("utf-8", "surrogateescape")
     while place < len(line):
         if line[place : place + 1] != b"\\":
@@ -41,7 +41,7 @@ def unescaped(text):
 
 
 def stored_cases():
-    """Each case of the folder `cases`: where it stands, its words, its input, and its output, line and status."""
+    """Each case of the folder `cases`: its place, its words, its input, and its output, line and status."""
     found = []
     for name in sorted(f"{kind}/{it}" for kind in ("asked", "drawn") for it in os.listdir(f"{TOP}/cases/{kind}")):
         now = None
@@ -89,7 +89,7 @@ def example_calls():
 
 
 def hostile_calls():
-    """Texts that nobody means well, up to the longest that is read, and longer ones."""
+    """Hostile texts, up to the longest that is read, and longer ones."""
     chance = random.Random(3)
     noise = {part: (part * (MOST // len(part) + 1))[:MOST].encode() for part in ("(", "not ", "A", "#", "\n", "\0", "7")}
     found = [(f"nothing but {part!r}", [b"check"], text) for part, text in noise.items()]

@@ -1,10 +1,10 @@
 // The heap: blocks of some 180 sizes, four to each doubling. A block that is freed waits in the list of its size for the next one
-// that asks for it. The block that was made last grows where it stands, as long as there is memory.
+// that asks for it. The last block grows in place, as long as there is memory.
 #include "memory.h"
 
 #define EXPORT(name) __attribute__((export_name(#name)))
 
-// What stands before each block. A block and its head begin at multiples of 16.
+// The head before each block. A block and its head begin at multiples of 16.
 typedef struct Head {
     size kind;
     struct Head *next; // while it is free
@@ -19,7 +19,7 @@ static size nowhere[2]; // the place of a block that isn't there
 // The bytes of a block of this kind, with its head: 32, 48, 48, 64, 64, 80, 96, 112, 128, 160 ..
 static size size_of(size kind) { return (((4 + kind % 4) << (kind / 4 + 3)) + 15) & ~(size)15; }
 
-// The first kind that has room for n bytes behind its head, where n is below 2^32.
+// The first kind that has room for n bytes after its head, where n is below 2^32.
 static size kind_for(size n) {
     size whole = n + sizeof(Head) < LEAST ? LEAST : n + sizeof(Head);
     size bits = 63 - __builtin_clzl(whole); // 2^bits is the greatest power in it

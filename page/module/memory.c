@@ -3,7 +3,7 @@
 
 enum { PAGE = 65536 };
 
-extern byte __heap_base; // the linker's: behind the stack and all data
+extern byte __heap_base; // the linker's: after the stack and all data
 
 byte *memory_begin(void) { return &__heap_base; }
 

@@ -46,11 +46,11 @@ const both_runs = {
     const { notes, last } = read_notes(new TextDecoder().decode(first.history.out));
     const lined = lined_up(first.events, second.events, notes, renamed),
       count = each => each.events.length.toLocaleString("en");
-    const told = same ? `Both show the same ${counted(notes.length, "note")}, byte for byte`
+    const comparison = same ? `Both show the same ${counted(notes.length, "note")}, byte for byte`
       : front ? "Both were not played to one end, and the shorter history is the beginning of the longer one"
         : `The histories differ at byte ${place}`;
-    app.say("both-status", `${told}. Before: ${count(first)} events; after: ${count(second)}. ` +
-      `${run_tab.told_end(last)}` +
+    app.say("both-status", `${comparison}. Before: ${count(first)} events; after: ${count(second)}. ` +
+      `${run_tab.end_in_words(last)}` +
       (first.is_cut || second.is_cut ? ` Compared are the first ${both_runs.MOST_BYTES / 1e6} MB.` : ""));
     at("both-status").className = same || front ? "good" : "refusal";
     Object.assign(both_runs, { rows: lined.rows, first, second, notes });

@@ -31,10 +31,10 @@ const command_line = {
     at("cli-out").textContent = text + more;
     at("cli-err").textContent = answer.err || "";
     at("cli-save").disabled = !answer.out.length;
-    app.say("cli-status", command_line.told_end(answer));
+    app.say("cli-status", command_line.end_in_words(answer));
   },
 
-  told_end(answer) {
+  end_in_words(answer) {
     const size = `${answer.out.length.toLocaleString("en")} bytes on the output, ${(answer.err || "").length} on ` +
       `the error output`;
     const time = `${Math.round(answer.ms)} ms`;

@@ -30,7 +30,7 @@ const conflicts = {
       ? `For ${plural(pairs.length, "pair")} the order of two events of one time and one priority can matter. A ` +
         `priority on an edge settles it.`
       : "No two events are in conflict: in whatever order simultaneous events of one priority occur, they commute.");
-    const items = pairs.slice(0, conflicts.MOST).map(pair => conflicts.item(pair, told_reasons(pair, model, uses)));
+    const items = pairs.slice(0, conflicts.MOST).map(pair => conflicts.item(pair, reasons_in_words(pair, model, uses)));
     if (pairs.length > conflicts.MOST)
       items.push(Object.assign(document.createElement("li"),
         { textContent: `and ${(pairs.length - conflicts.MOST).toLocaleString("en")} more` }));

@@ -54,7 +54,7 @@ const designs = {
   show() { at("exp-designs").replaceChildren(...designs.list.map(designs.row)); },
 
   // What is said of a design's text.
-  told(design) {
+  text_in_words(design) {
     if (design.text === null) return "the text as it is now";
     const changed = line_difference(app.editor.text().split("\n"), design.text.split("\n"))
       .filter(([sign]) => sign !== " ").length;
@@ -83,7 +83,7 @@ const designs = {
           () => app.set_text(design.text)));
     }
     if (k) line.append(designs.button("Remove", "", () => designs.remove(k)));
-    note.textContent = designs.told(design);
+    note.textContent = designs.text_in_words(design);
     note.className = "design-note";
     const problem = document.createElement("p");
     problem.className = "refusal";
@@ -120,7 +120,7 @@ const designs = {
       { value: design.text, rows: 12, ariaLabel: `the text of ${design.name}`, spellcheck: false });
     field.onchange = () => {
       design.text = field.value;
-      row.querySelector(".design-note").textContent = designs.told(design);
+      row.querySelector(".design-note").textContent = designs.text_in_words(design);
       designs.changed();
     };
     row.append(field);

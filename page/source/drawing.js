@@ -46,7 +46,7 @@ const drawing = {
     return { refusal: `${place.what} ${where}${hint ? `: ${hint}` : ""}`, field: found && found.field, unknown };
   },
 
-  tell(words) {
+  notify(words) {
     at("picture-status").textContent = words;
     inspector.note = words;
     inspector.show();
@@ -56,7 +56,7 @@ const drawing = {
   async add_event() {
     const name = is_blank(app.editor.text()) ? "START" : free_name(app.editor.text(), "EVENT1");
     const answer = await drawing.write(text => add_event(text, name));
-    if (answer.refusal) { drawing.tell(answer.refusal); return; }
+    if (answer.refusal) { drawing.notify(answer.refusal); return; }
     app.select(name);
     app.picture.seek(name);
     inspector.focus("name");
@@ -64,7 +64,7 @@ const drawing = {
   async add_edge(from, to) {
     const number = name => app.model.vertices.findIndex(vertex => vertex.name === name);
     const answer = await drawing.write(text => add_edge(text, number(from), number(to)));
-    if (answer.refusal) { drawing.tell(answer.refusal); return; }
+    if (answer.refusal) { drawing.notify(answer.refusal); return; }
     app.select(from, app.model.vertex.get(from).edges.length - 1);
     inspector.focus("kind");
   },
@@ -72,7 +72,7 @@ const drawing = {
     const number = app.model.vertices.findIndex(vertex => vertex.name === name);
     const answer = await drawing.write(text => place === undefined ? remove_event(text, number)
       : remove_edge(text, number, place));
-    if (answer.refusal) drawing.tell(`${name} stays: ${answer.refusal}`);
+    if (answer.refusal) drawing.notify(`${name} stays: ${answer.refusal}`);
     else app.select(place === undefined ? null : name);
   },
   // The form of an event or edge, with the keyboard in it.

@@ -62,7 +62,7 @@ const event_form = {
       changed = made.changed;
       return made.edits;
     });
-    if (!answer.refusal && changed) drawing.tell(
+    if (!answer.refusal && changed) drawing.notify(
       `${plural(changed, "edge")} to this event ${changed === 1 ? "was" : "were"} changed to carry these values.`);
     return answer;
   },
@@ -104,12 +104,12 @@ const event_form = {
   },
   async move_up(number, place, name) {
     const answer = await drawing.write(text => move_edge_up(text, number, place));
-    if (answer.refusal) drawing.tell(answer.refusal);
+    if (answer.refusal) drawing.notify(answer.refusal);
     else app.select(name);
   },
   async move_first(number, name) {
     const answer = await drawing.write(text => make_first(text, number));
-    if (answer.refusal) drawing.tell(answer.refusal);
+    if (answer.refusal) drawing.notify(answer.refusal);
     else app.select(name);
   },
 };

@@ -67,10 +67,10 @@ const experiment_results = {
       const found = compared(results, item, column), name = column === "time" ? "time of the end" : item;
       if (found.refusal) { body.append(experiment_results.row(name, found.refusal)); continue; }
       rounded = rounded || found.rounded;
-      found.rows.forEach((row, k) => body.append(experiment_results.row(k ? "" : name, row.label, told_mean(row.mean),
+      found.rows.forEach((row, k) => body.append(experiment_results.row(k ? "" : name, row.label, mean_in_words(row.mean),
         "", pairs > 1)));
       found.differences.forEach(each => body.append(experiment_results.row("", each.label,
-        told_mean(each.mean, each.together), "difference", pairs > 1)));
+        mean_in_words(each.mean, each.together), "difference", pairs > 1)));
       if (drawn++ < experiment_results.MOST_PLOTS) experiment_results.draw(name, found.rows, column);
     }
     if (drawn > experiment_results.MOST_PLOTS) at("exp-plots")

@@ -69,7 +69,7 @@ const FAULT_WORDS = {
 };
 
 // Values as a line for each variable.
-function told_values(model, values) {
+function values_in_words(model, values) {
   return [...values].map(([name, list]) => {
     const shown = list.length > 12 ? list.slice(0, 12).join(", ") + " .." : list.join(", ");
     return `${name} = ${model.variable.get(name).cells ? `[${shown}]` : shown}, declared ` +
@@ -87,6 +87,6 @@ function show_fault(model, fault, kind) {
     `${fault.pending.time} asks for ` +
     `${FAULT_WORDS[kind] || kind} (${kind}).`);
   add("code", fault.part || `${fault.vertex.name}(${fault.vertex.params.join(", ")})`);
-  const values = told_values(model, fault.values);
+  const values = values_in_words(model, fault.values);
   add("p", values.length ? `At that moment: ${values.join("; ")}.` : "It reads no variable.");
 }

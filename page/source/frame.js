@@ -138,7 +138,7 @@ const report = {
       html("td", {}, range_in_words(variable)),
       html("td", {}, variable.initial), html("td", {}, model.watch.includes(variable.name) ? "watched" : "")));
     const head = html("tr", {}, ...["variable", "range", "starts at", ""].map(words => html("th", {}, words)));
-    const all = await app.told_all(),
+    const all = await app.describe_all(),
       said = [...all.model, ...[...all.vertices.values()].flatMap(vertex => vertex.all)];
     at("paper").replaceChildren(html("h1", {}, `Model ${model.name}`),
       html("p", {}, `${app.file}, ${new Date().toISOString().slice(0, 10)}`), picture,

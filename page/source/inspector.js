@@ -111,7 +111,7 @@ const inspector = {
     if (!note || !/^[A-Za-z]\w*$/.test(unknown)) return;
     const declare = async line => {
       const answer = await drawing.write(text => add_variable(text, line));
-      if (answer.refusal) { drawing.tell(answer.refusal); return; }
+      if (answer.refusal) { drawing.notify(answer.refusal); return; }
       const control = inspector.control(name);
       if (control) control.dispatchEvent(new Event("change"));
     };
@@ -124,7 +124,7 @@ const inspector = {
 // The sentences in which `describe` says what is selected.
 function sentences_of(name, place) {
   const box = html("div", { className: "sentences" });
-  app.told_all().then(all => {
+  app.describe_all().then(all => {
     const own = all?.vertices.get(name);
     if (own) box.replaceChildren(...(place === undefined ? own.all : [own.edges[place]]).slice(0,
       100).map(words => html("p", {}, words)));

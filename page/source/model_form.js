@@ -30,7 +30,7 @@ const model_form = {
   add_table: () => model_form.add("TABLE1", name => `table ${name} { 1 : 1; 2 : 1; }`, add_table, "tables"),
   async add(stem, line, edit, list) {
     const name = free_name(app.editor.text(), stem), answer = await drawing.write(text => edit(text, line(name)));
-    if (answer.refusal) { drawing.tell(answer.refusal); return; }
+    if (answer.refusal) { drawing.notify(answer.refusal); return; }
     app.select(null);
     inspector.focus(`${list}-${app.model[list].length - 1}-name`);
   },
@@ -118,7 +118,7 @@ const model_form = {
   async remove(list, number) {
     const { name } = app.model[list][number],
       answer = await drawing.write(text => remove_declaration(text, list, number));
-    if (answer.refusal) drawing.tell(`${name} stays, since it is used: ${answer.refusal}`);
+    if (answer.refusal) drawing.notify(`${name} stays, since it is used: ${answer.refusal}`);
   },
 };
 

@@ -40,7 +40,7 @@ function cancels_of(vertex, other) {
 }
 
 // Why two vertices are in conflict, a text for each reason.
-function told_reasons(pair, model, uses) {
+function reasons_in_words(pair, model, uses) {
   const first = model.vertex.get(pair.first), second = model.vertex.get(pair.second), details = {
     variables: () => `variables ${shared_variables(pair, uses).join(", ")}`,
     streams: () => { const mine = streams_of(second);

@@ -43,12 +43,12 @@ class TokenWalk {
   constructor(text) {
     this.tokens = tokens_of(text);
     this.next = 0;
-    this.behind = { word: "", from: text.length, to: text.length };
+    this.after_last = { word: "", from: text.length, to: text.length };
   }
-  peek(ahead = 0) { return this.tokens[this.next + ahead] || this.behind; }
+  peek(ahead = 0) { return this.tokens[this.next + ahead] || this.after_last; }
   is(word) { return this.peek().word === word; }
-  take() { return this.tokens[this.next++] || this.behind; }
-  last() { return this.tokens[this.next - 1] || this.behind; }
+  take() { return this.tokens[this.next++] || this.after_last; }
+  last() { return this.tokens[this.next - 1] || this.after_last; }
   // All up to the first of these words outside of brackets, which isn't taken.
   until(...words) {
     const from = this.peek().from;
@@ -100,7 +100,7 @@ function table_part(walk) {
 
 function watch_part(walk) {
   const from = walk.take().from, names = [];
-  while (!walk.is(";") && walk.peek() !== walk.behind) {
+  while (!walk.is(";") && walk.peek() !== walk.after_last) {
     const token = walk.take();
     if (token.word !== ",") names.push(token);
   }
@@ -121,7 +121,7 @@ function edge_part(walk) {
 function vertex_part(walk) {
   const from = walk.take().from, name = walk.take(), params = walk.list("(", ")"), open = walk.take();
   const vertex = { from, to: from, name, params, open: open.to, close: open.to, changes: [], edges: [] };
-  while (!walk.is("}") && walk.peek() !== walk.behind) {
+  while (!walk.is("}") && walk.peek() !== walk.after_last) {
     if (walk.is("set") || walk.is("draw")) {
       const change = walk.until(";");
       vertex.changes.push({ from: change.from, to: walk.take().to });
@@ -139,7 +139,7 @@ function vertex_part(walk) {
 function parts_of(text) {
   const walk = new TokenWalk(text),
     parts = { version: null, model: null, vars: [], tables: [], watch: null, vertices: [], end: null };
-  while (walk.peek() !== walk.behind) {
+  while (walk.peek() !== walk.after_last) {
     const { word, from } = walk.peek();
     if (word === "version" || word === "model") {
       walk.take();

@@ -93,10 +93,10 @@ const player = {
     }
     const numbers = `event ${(player.first + k).toLocaleString("en")} of ${last.toLocaleString("en")}`;
     at("run-clock").textContent = `${numbers}: ${vertex.name} at ${time.toLocaleString("en")}`;
-    at("run-taken").textContent = places ? player.told_edges(vertex, places) : "which edges it takes isn't known here";
+    at("run-taken").textContent = places ? player.edges_in_words(vertex, places) : "which edges it takes isn't known here";
   },
 
-  told_edges(vertex, places) {
+  edges_in_words(vertex, places) {
     if (!vertex.edges.length) return "it has no edges";
     if (!places.length) return `it takes none of its ${vertex.edges.length} edges`;
     const words = places.map(place => `${vertex.edges[place].kind} ${vertex.edges[place].target}`);

@@ -40,7 +40,7 @@ const run_tab = {
     }
     const size = answer.written < 1e5 ? `${answer.written.toLocaleString("en")} bytes`
       : `${(answer.written / 1e6).toFixed(1)} MB`;
-    app.say("run-status", `${run_tab.told_end(answer.last)} ${counted(answer.notes, "note")}, ` +
+    app.say("run-status", `${run_tab.end_in_words(answer.last)} ${counted(answer.notes, "note")}, ` +
       `${size}, ${Math.round(answer.ms)} ms.`);
     courses.show(answer);
     courses.show_time(0);
@@ -48,7 +48,7 @@ const run_tab = {
   },
 
   // How a run ended, in words.
-  told_end(last) {
+  end_in_words(last) {
     const [word, number, kind] = last.split(" ");
     if (word === "ended") return `Ended at ${number}: nothing was pending any more.`;
     if (word === "stopped") return `Stopped at ${number}, the stop time.`;

@@ -105,7 +105,7 @@ function fixed(value, digits) {
 }
 
 // The texts of a mean: three decimals, or as many as the error needs.
-function told_mean(mean, together) {
+function mean_in_words(mean, together) {
   if (mean.error === null) return { runs: String(mean.runs), mean: fixed(mean.mean, 3), error: "takes two runs",
     from: "", to: "" };
   let digits = 3;

@@ -13,7 +13,7 @@ await opened("bank");
 equal("what is shown is what was written",
   [await called("./sigma check < bank.sigma"), text_at("cli-out"), text_at("cli-err")],
   ["accepted BANK\n", "accepted BANK\n", ""]);
-check("the status is told", text_at("cli-status").startsWith("exit status 0; 14 bytes on the output"),
+check("the status is shown", text_at("cli-status").startsWith("exit status 0; 14 bytes on the output"),
   text_at("cli-status"));
 await called("bogus");
 check("refused words", text_at("cli-err") === "sigma: bad command line\n" && text_at("cli-status")

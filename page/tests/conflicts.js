@@ -15,7 +15,7 @@ for (const name of ["bank", "emergency", "network", "polling", "line", "stock"])
     all("#conflict-list li").every((line, k) =>
     line.textContent.length > all("#conflict-list b")[k].textContent.length + 4));
   check(`${name}: each reason names what it is about`,
-    pairs.every(pair => told_reasons(pair, app.model, uses).every(reason => !/ $/.test(reason))));
+    pairs.every(pair => reasons_in_words(pair, app.model, uses).every(reason => !/ $/.test(reason))));
   equal(`${name}: a row for each variable`,
     [...at("uses-table").rows].map(row => [...row.cells].map(cell => cell.textContent)),
     uses.map(use => [use.name, use.readers.join(", "), use.writers.join(", "), use.watched]));

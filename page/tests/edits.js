@@ -7,7 +7,7 @@ const lines_changed = (before, after) => {
   return [old.filter(line => !now.includes(line)), now.filter(line => !old.includes(line))];
 };
 
-// Parts are found behind comments and in any layout.
+// Parts are found after comments and in any layout.
 const wild = "# vertex X { schedule Y; }\nversion 2;model M;var N:0..9=0;var A[3]:-5..5 clip=-1;table T{1:2;3:4;}watch N,V;\nvertex V(N){set N:=N+1;# } schedule\n  schedule V(min(N,(3)))\n after draw from 1 by T\tpriority 3 when N<2 ;cancel all V when N=1;}vertex W{}end\n";
 const parts = parts_of(wild), word = part => words_in(wild, part);
 equal("parts of a text", [word(parts.model.value),
@@ -63,7 +63,7 @@ equal("an urgent edge has no delay", edited(commented, set_edge(commented, 0, 0,
 check("a drawn delay has its version line",
   edited(commented, set_edge(commented, 0, 0, old,
   { ...old, delay: "draw from 0 in 1..6" })).startsWith("version 2;\nmodel M;"));
-equal("a new change stands behind the last",
+equal("a new change comes after the last",
   edited(commented, set_changes(commented, 0, ["set N := N + 1"], ["set N := N + 1", "set N := 0"])),
   commented.replace("# one more\n", "# one more\n  set N := 0;\n"));
 equal("a new first change", edited(commented,

@@ -4,7 +4,7 @@ const words = ["run", "--until", "480", "--seed", "7", "--events", "100000"];
 const whole = await engine.call("test", words, bank);
 equal("a run ends with status 0", [whole.status, whole.err, whole.cut, whole.failure], [0, "", false, ""]);
 equal("its bytes are those that are stored", whole.out, given.stored["bank.run"]?.[1] ?? whole.out);
-equal("as many are told as came", whole.written, bytes(whole.out).length);
+equal("the count is of those that came", whole.written, bytes(whole.out).length);
 const same = await engine.call("test", words, bytes(bank), { want: "bytes" });
 check("bytes in, bytes out", same.out instanceof Uint8Array && new TextDecoder().decode(same.out) === whole.out);
 equal("none is wanted", [(await engine.call("test", words, bank, { want: "none" })).out], [undefined]);
@@ -31,7 +31,7 @@ check("output comes before the run ends", progress > 0 && parts <= progress + 65
 check("the lane is busy", engine.busy("test"));
 check("there is something to stop", engine.stop("test"));
 const stopped = await running;
-check("Stop is told", stopped instanceof Superseded && stopped.came.stopped && stopped.came.status === null);
+check("Stop is reported", stopped instanceof Superseded && stopped.came.stopped && stopped.came.status === null);
 check("Stop keeps what came", stopped.came.written >= 1e6 && stopped.came.out.startsWith("at 0 N=1\nat 1 N=2\n") && stopped.came.out.length === stopped.came.written, stopped.came.out.slice(0, 40));
 check("nothing is there to stop", !engine.stop("test") && !engine.busy("test"));
 const silent = engine.call("test", endless_words, "model E;\nvertex V {\n  schedule V;\n}\nend\n").catch(problem => problem);

@@ -64,7 +64,7 @@ const kept = JSON.parse(localStorage.getItem("sigma.designs") || "[]");
 check("designs are kept in the browser", kept.length === 3 && kept[2].text.includes("0..3 = 3"), kept.length);
 designs.list[0].name = "faster";
 await experiments.go();
-equal("names are told apart", text_at("exp-status"), "two designs are called faster");
+equal("equal names are refused", text_at("exp-status"), "two designs are called faster");
 designs.list[0].name = "bank";
 designs.list[2].text = "model M;\n";
 await experiments.go();
@@ -88,7 +88,7 @@ at("exp-sum").value = "BROKEN[0]+BROKEN[1]";
 at("exp-sum").dispatchEvent(new Event("change"));
 const sums = starts.map(({ out }) => { const { items, times } = read_report(out);
   return times.map((time, k) => items.get("BROKEN[0]").area[k] / time + items.get("BROKEN[1]").area[k] / time); });
-equal("a sum of items", table().slice(0, 2).map(row => row[3]), sums.map(values => told_mean(summary_of(values)).mean));
+equal("a sum of items", table().slice(0, 2).map(row => row[3]), sums.map(values => mean_in_words(summary_of(values)).mean));
 at("exp-sum").value = "";
 
 // Runs that were cut off.
@@ -115,7 +115,7 @@ const [early, late] = await Promise.all(["1000", "51000"]
   examples.geo)));
 const steady = report_since(read_report(early.out), read_report(late.out), "late", "early").report;
 equal("what comes after the warm-up", table()[0][3],
-  told_mean(compared([{ label: "geo", report: steady }], "N", "average").rows[0].mean).mean);
+  mean_in_words(compared([{ label: "geo", report: steady }], "N", "average").rows[0].mean).mean);
 at("exp-column").value = "greatest";
 at("exp-column").dispatchEvent(new Event("change"));
 check("it has no greatest value", table()[0][1] === "the run with seed 1 in now has no greatest of N", table());

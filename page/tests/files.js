@@ -27,7 +27,7 @@ await app.set_text("# " + Array.from({ length: 30000 },
   "long.sigma");
 at("link").click();
 await until(() => at("link-dialog").open);
-check("a model that is too long for a link is told",
+check("a model that is too long for a link is reported",
   at("link-words").textContent.includes("too long") && at("link-text").parentNode.hidden, at("link-words").textContent);
 at("link-dialog").close();
 
@@ -42,7 +42,7 @@ dispatchEvent(new DragEvent("drop", { dataTransfer: dropped, cancelable: true })
 await until(() => app.fresh && app.model.name === "DESK");
 check("a file is dropped", app.file === "desk.sigma");
 await files.open(file("latin.sigma", new Uint8Array([35, 32, 71, 114, 252, 10]), bank));
-check("a file that isn't UTF-8 is told", at("kept").textContent.includes("UTF-8") && app.fresh);
+check("a file that isn't UTF-8 is reported", at("kept").textContent.includes("UTF-8") && app.fresh);
 await files.open(file("marked.sigma", new Uint8Array([0xef, 0xbb, 0xbf]), bank));
 check("a byte order mark stays for the program to see", app.place?.byte === 0);
 
@@ -63,7 +63,7 @@ await app.check();
 check("and Undo brings it back", app.editor.text().startsWith("# mine\n"));
 await app.set_text(bank, "bank.sigma");
 
-// Kept in the browser, and a full store is told. (The tests' page keeps nothing by itself.)
+// Kept in the browser, and a full store is reported. (The tests' page keeps nothing by itself.)
 let kept = {};
 Storage.prototype.setItem = (key, value) => { kept[key] = value; };
 app.editor.cm.replaceRange("# kept ü\n", { line: 0, ch: 0 });
@@ -71,7 +71,7 @@ await until(() => kept["sigma.text"]?.startsWith("# kept ü\n"));
 check("kept as one types", kept["sigma.name"] === "bank.sigma");
 Storage.prototype.setItem = () => { throw new DOMException("full", "QuotaExceededError"); };
 files.keep();
-check("a full store is told", at("kept").textContent.includes("not kept") && files.unkept);
+check("a full store is reported", at("kept").textContent.includes("not kept") && files.unkept);
 const closing = new Event("beforeunload", { cancelable: true });
 dispatchEvent(closing);
 check("and closing asks", closing.defaultPrevented);

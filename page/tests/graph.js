@@ -1,4 +1,4 @@
-// The graph in the page: what stands in it for each example, clicks, directions, files, and a large model.
+// The graph in the page: what it shows of each example, clicks, directions, files, and a large model.
 const all = selector => [...document.querySelectorAll(selector)], box = element => element.getBBox();
 const count = (text, pattern) => (text.match(pattern) || []).length;
 
@@ -14,16 +14,16 @@ for (const [name, text] of Object.entries(given.examples)) {
     all("#picture .inner").length === model.watch.filter(each => model.vertex.has(each)).length);
   check(`${name}: no two ellipses meet`, ellipses.every((a, i) => ellipses.slice(i + 1).every(b =>
     a.x + a.width <= b.x || b.x + b.width <= a.x || a.y + a.height <= b.y || b.y + b.height <= a.y)));
-  check(`${name}: text stands in its ellipse`, all("#picture .node").every(node => {
+  check(`${name}: text is inside its ellipse`, all("#picture .node").every(node => {
     const around = box(node.querySelector("ellipse"));
     return [...node.querySelectorAll("text")].map(box).every(t => t.x >= around.x - 1
       && t.x + t.width <= around.x + around.width + 1
       && t.y >= around.y - 1 && t.y + t.height <= around.y + around.height + 1);
   }));
-  const told = await app.told_all();
+  const described = await app.describe_all();
   check(`${name}: a sentence for each edge`,
-    model.vertices.every(vertex => told.vertices.get(vertex.name).edges.length === vertex.edges.length
-    && vertex.edges.every((edge, k) => told.vertices.get(vertex.name).edges[k].includes(edge.target))));
+    model.vertices.every(vertex => described.vertices.get(vertex.name).edges.length === vertex.edges.length
+    && vertex.edges.every((edge, k) => described.vertices.get(vertex.name).edges[k].includes(edge.target))));
   check(`${name}: places in the text`, model.vertices.every((vertex, i) => {
     const part = app.places[i];
     return new RegExp(`^vertex\\s+${vertex.name}\\b`).test(text.slice(part.from, part.to)) && text[part.to - 1] === "}"

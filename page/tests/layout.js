@@ -50,7 +50,7 @@ equal("labels that meet, and a line through another's label", [seen.labels, seen
 const sized = count => Array.from({ length: count }, () => ({ width: 60, height: 30 })),
   to = (from, end) => ({ from, to: end, width: 20, height: 12 });
 const apart = laid_out(sized(8), []).nodes;
-check("no edge: parts stand beside each other, in rows",
+check("no edge: parts are beside each other, in rows",
   new Set(apart.map(place => place.y)).size > 1 && new Set(apart.map(place => place.x)).size > 1, apart);
 const chain = laid_out(sized(3), [to(0, 1), to(1, 2), to(2, 0)]);
 check("a circle goes down and comes back", chain.nodes[0].y < chain.nodes[1].y && chain.nodes[1].y < chain.nodes[2].y);

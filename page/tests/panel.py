@@ -1,5 +1,5 @@
 """Looks at each tab of the panel with something in it, wide and narrow, in light and in dark: nothing is wider than the panel, each
-control has a name, and no id stands twice. With --shots it writes what it sees."""
+control has a name, and no id occurs twice. With --shots it writes what it sees."""
 
 # A state: its name, and how the page gets into it.
 STATES = [
@@ -50,5 +50,5 @@ def test(browser, check, given, shots):
     nameless = browser.run(NAMELESS)
     check("each control has a name", not nameless, nameless)
     twice = browser.run("const ids = [...document.querySelectorAll('[id]')].map(each => each.id); return ids.filter((id, k) => ids.indexOf(id) !== k)")
-    check("no id stands twice", not twice, twice)
+    check("no id occurs twice", not twice, twice)
     browser.size(1400, 900)

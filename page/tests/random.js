@@ -47,10 +47,10 @@ for (let k = 0; k < 1000; k++) {
   await app.set_text(text);
   const held = app.editor.text(), said = await engine.call("random", ["check"], held);
   if (said.status === 0) accepted++; else refused++;
-  const told = app.place ? `sigma: byte ${app.place.byte}: ${app.place.what}` : status();
+  const shown = app.place ? `sigma: byte ${app.place.byte}: ${app.place.what}` : status();
   // A text of blanks and comments alone is an empty page, to draw on.
   const is_empty = is_blank(held) && status().startsWith("an empty page") && said.err === `sigma: byte ${new TextEncoder().encode(held).length}: unexpected\n`;
-  const agrees = said.status === 0 ? app.fresh && status() === said.out.trim() : !app.fresh && (is_empty || told === said.err.trim());
+  const agrees = said.status === 0 ? app.fresh && status() === said.out.trim() : !app.fresh && (is_empty || shown === said.err.trim());
   if (!agrees) wrong.push([text.slice(0, 200), said.err, status()]);
 }
 check("the page says of each text what the program says", !wrong.length, wrong);

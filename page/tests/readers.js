@@ -39,7 +39,7 @@ const long = fed(new CourseReader([{ name: "X", cells: 0 }], 8),
 equal("columns grow with the time", [long.cells[0].area, long.end], [1e12 - 5 * (2 ** 48 - 1e12), 2 ** 48]);
 equal("a budget ends with the last note",
   fed(new CourseReader([{ name: "X", cells: 0 }]), "at 3 X=2\nat 7 X=4\nbudget 9\n", 4).finish().end, 7);
-check("numbers above 2^53 are told", fed(new CourseReader([{ name: "X", cells: 0 }]),
+check("numbers above 2^53 are reported", fed(new CourseReader([{ name: "X", cells: 0 }]),
   "at 0 X=9007199254740993\nended 0\n", 99).finish().rounded);
 equal("truth values and arrays", (() => {
   const reader = new NoteReader(4, () => { });

@@ -59,7 +59,7 @@ check("work on with this", app.model.text === text && !document.body.classList.c
 await opened("ferry");
 await reducing.go("fuse");
 check("fused as stored", reducing.result.output === given.stored["ferry.fuse"][1]);
-equal("which stands for which", all("#reduce-steps li").map(step => step.textContent),
+equal("which vertex takes the place of which", all("#reduce-steps li").map(step => step.textContent),
   ["fuse NEAR_STAGE FAR_STAGE FAR_STAGE does the same as NEAR_STAGE. So NEAR_STAGE replaces FAR_STAGE."]);
 check("the same run of both, with other names", text_at("both-status").startsWith("Both show the same") &&
   both_runs.rows.every(row => !row.before || row.after), text_at("both-status"));

@@ -49,7 +49,7 @@ const before = read_model("model M;\nvar N : 0..9 = 0;\nvertex A {\n  schedule B
   "}\nvertex C {\n}\nvertex D {\n}\nend\n");
 const fused = follow_fusing(before, read_model("model M;\nvar N : 0..9 = 0;\nvertex A {\n  schedule B;\n  " +
   "schedule B;\n}\nvertex B {\n}\nend\n"));
-equal("which vertex stands for which", fused.lines, ["fuse B C", "fuse D"]);
+equal("which vertex takes the place of which", fused.lines, ["fuse B C", "fuse D"]);
 check("where no edge leads it isn't known for which", fused.sentences[1].includes("an earlier event"));
 equal("narrowed ranges", follow_narrowing(before,
   read_model("model M;\nvar N : 0..4 = 0;\nvertex A {\n}\nend\n")).sentences,
@@ -97,12 +97,12 @@ const pairs = read_conflicts(given.stored["bank.conflicts"][1]), uses = read_use
 equal("pairs", pairs[1], { first: "ARRIVE", second: "LEAVE", reasons: ["variables"] });
 equal("uses", uses[0].name, "QUEUE");
 equal("what a pair shares", shared_variables(pairs[1], uses), ["QUEUE", "IDLE"]);
-equal("nobody reads", read_uses("N readers - writers RUN watched yes\n"),
+equal("no event reads it", read_uses("N readers - writers RUN watched yes\n"),
   [{ name: "N", readers: [], writers: ["RUN"], watched: "yes" }]);
 const streams = read_model("version 2;\nmodel M;\nvertex A {\n  draw X from 3 in 0..9;\n  schedule A after draw " +
   "from 12 by T;\n  cancel B;\n}\nvertex B {\n}\nend\n");
 equal("streams", streams_of(streams.vertices[0]), ["3", "12"]);
-equal("cancels", told_reasons({ first: "A", second: "B", reasons: ["cancels"] }, streams, []), ["A cancels B"]);
+equal("cancels", reasons_in_words({ first: "A", second: "B", reasons: ["cancels"] }, streams, []), ["A cancels B"]);
 
 // Lines of a shell.
 equal("a line", shell_line(["run", "--start=-1,2"], "my file's.sigma", "a b.csv"),

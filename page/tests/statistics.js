@@ -13,11 +13,11 @@ equal("decimals as C prints them", [[0.0625, 3], [0.1875, 3], [2.5, 0], [3.5, 0]
   [1.0005, 3], [-0.0001, 3], [1e22, 1]]
   .map(([value, digits]) => fixed(value, digits)),
 ["0.062", "0.188", "2", "4", "-0.062", "0.001", "1.000", "-0.000", "1e+22"]);
-equal("a mean in words", told_mean(summary_of([1, 2, 3, 4])),
+equal("a mean in words", mean_in_words(summary_of([1, 2, 3, 4])),
   { runs: "4", mean: "2.500", error: "0.645", from: "0.446", to: "4.554" });
 equal("as many decimals as the error needs",
-  told_mean({ runs: 9, mean: 0.5, error: 0.00012, from: 0.4, to: 0.6 }).mean, "0.5000");
-equal("no error of one value", told_mean(summary_of([7])),
+  mean_in_words({ runs: 9, mean: 0.5, error: 0.00012, from: 0.4, to: 0.6 }).mean, "0.5000");
+equal("no error of one value", mean_in_words(summary_of([7])),
   { runs: "1", mean: "7.000", error: "takes two runs", from: "", to: "" });
 equal("bars of whole widths", [0, 0.19999999999, 0.2, 0.3, -0.1, -0.2, 5].map(value => bar_of(value, 0.2)),
   [0, 1, 1, 1, -1, -1, 25]);
@@ -45,7 +45,7 @@ equal("runs that were cut off", cut_off_lines([faults], false), { lines: [
 equal("taken as they are", cut_off_lines([faults], true),
   { lines: ["bank: of 3 runs 1 ended by a fault and 1 spent the budget"], refused: false });
 equal("none were", cut_off_lines([bank], false), { lines: [], refused: false });
-equal("the mean of the bank's report", told_mean(compared([bank], "QUEUE", "average").rows[0].mean),
+equal("the mean of the bank's report", mean_in_words(compared([bank], "QUEUE", "average").rows[0].mean),
   { runs: "8", mean: "0.470", error: "0.103", from: "0.225", to: "0.714" });
 equal("a sum of items", compared([bank], "QUEUE+QUEUE", "greatest").rows[0].values,
   compared([bank], "QUEUE", "greatest").rows[0].values.map(value => 2 * value));
@@ -64,5 +64,5 @@ near("by the quantile for three pairs", half / three.differences[0].mean.error, 
 check("two designs need none", compared([bank, more], "QUEUE", "average").differences[0].together === null);
 check("other seeds don't pair", compared([bank, { label: "other", report: first_runs(bank.report, 5) }], "QUEUE",
   "average").refusal.includes("do not pair"));
-check("numbers above 2^53 are told", compared([report("1,1,ended,9,X,0,1,9007199254740993,4,\n")], "X",
+check("numbers above 2^53 are reported", compared([report("1,1,ended,9,X,0,1,9007199254740993,4,\n")], "X",
   "last").rounded);

@@ -3,11 +3,11 @@
 const status = () => at("status").textContent, bytes = text => new TextEncoder().encode(text).length;
 const { bank } = given.examples;
 
-// Each refusal of docs/use/model-text.md is marked at its byte, also behind other letters than those of ASCII.
+// Each refusal of docs/use/model-text.md is marked at its byte, also after other letters than those of ASCII.
 for (const [text, byte, what] of given.refusals) {
   for (const before of ["", "# Grüße 日本 😀\n"]) {
     await app.set_text(before + text);
-    const place = app.place, name = `${what} at ${byte}${before ? " behind UTF-8" : ""}`;
+    const place = app.place, name = `${what} at ${byte}${before ? " after UTF-8" : ""}`;
     const index = place && app.editor.cm.indexFromPos({ line: place.line, ch: place.ch });
     check(`refused: ${name}`, place && place.what === what && place.byte === byte + bytes(before)
       && bytes((before + text).slice(0, index)) === place.byte
@@ -69,12 +69,12 @@ check("a later key ends the call before",
 
 // Completion by place.
 const words = (before, text = bank) => words_at(before, before.length, names_in(text));
-equal("events behind schedule", words("vertex V {\n  schedule "), ["OPEN", "ARRIVE", "SERVE", "LEAVE", "CLOSE"]);
-check("and `all` behind cancel", words("vertex V {\n  cancel AR").includes("all"));
-equal("variables behind set", words("vertex V {\n  set QU"), ["QUEUE", "IDLE", "GAP", "SERVICE"]);
-check("clauses behind a target",
+equal("events after schedule", words("vertex V {\n  schedule "), ["OPEN", "ARRIVE", "SERVE", "LEAVE", "CLOSE"]);
+check("and `all` after cancel", words("vertex V {\n  cancel AR").includes("all"));
+equal("variables after set", words("vertex V {\n  set QU"), ["QUEUE", "IDLE", "GAP", "SERVICE"]);
+check("clauses after a target",
   ["after", "priority", "when"].every(word => words("vertex V {\n  schedule OPEN ").includes(word)));
-equal("tables behind by", words("vertex V {\n  draw N from 1 by ", "table HELP { 1 : 1; }"), ["HELP"]);
+equal("tables after by", words("vertex V {\n  draw N from 1 by ", "table HELP { 1 : 1; }"), ["HELP"]);
 check("changes and edges in an event", words("vertex V {\n  ").join() === "set,draw,schedule,urgent,cancel");
 check("declarations outside", words("model M;\n").includes("vertex"));
 const { cm } = app.editor;

@@ -15,7 +15,7 @@ def tool(words, folder, given=None):
     return done.stdout, [it.split(": ", 1)[1] for it in done.stderr.splitlines()]
 
 
-def told(row):
+def labelled(row):
     """A row of the page's table, as means writes it."""
     _, label, runs, mean, error, low, high = row[:7]
     return label, f"{runs} runs, mean {mean}, standard error {error}, from {low} to {high}"
@@ -59,7 +59,7 @@ def compare_means(browser, check, given, folder):
     for item, column in (("QUEUE", "average"), ("IDLE", "average"), ("QUEUE+IDLE", "average"), ("QUEUE", "greatest"), ("IDLE", "last"),
                          ("QUEUE", "area"), ("CLOSE", "count"), ("QUEUE", "least")):
         page = rows_of(table(browser, column, item if "+" in item else ""), item)
-        page = {label: rest for label, rest in map(told, page)}
+        page = {label: rest for label, rest in map(labelled, page)}
         said, _ = tool(["means", item, column, *names], folder)
         wanted = {}
         for line in said.splitlines():
@@ -72,7 +72,7 @@ def compare_means(browser, check, given, folder):
     wanted = {line[:line.index(" 200 runs")].strip(): line.split(" from ")[1].split(" to ") for line in said.splitlines() if " - " in line}
     check("all pairs together, as means --all-pairs says it", len(wanted) == 3 and pairs == wanted, [wanted, pairs])
     said, _ = tool(["means", "QUEUE", "time", "bank.csv"], folder)
-    check("the time of the end", told(table(browser, "time")[0])[1] == said.split("   ", 1)[1].strip(), said)
+    check("the time of the end", labelled(table(browser, "time")[0])[1] == said.split("   ", 1)[1].strip(), said)
     for item, column in (("CLOSE", "average"), ("QUEUE", "count")):
         _, why = tool(["means", item, column, *names], folder)
         check(f"{item} {column}: why there is none", rows_of(table(browser, column), item)[0][1] == why[-1], why)
@@ -90,7 +90,7 @@ def compare_single(browser, check, given, folder):
         item = rows[0][0]
         said, _ = tool(["means", item, "average", "emergency.csv"], folder)
         mean = rows[0][3]
-        check(f"{runs} runs of the emergency department", f"mean {mean}" in said and (runs == "1" or said.split(None, 1)[1].strip() == told(rows[0])[1]), [said, rows[0]])
+        check(f"{runs} runs of the emergency department", f"mean {mean}" in said and (runs == "1" or said.split(None, 1)[1].strip() == labelled(rows[0])[1]), [said, rows[0]])
     ask(browser, "240", "7", "40", "5")
     browser.run("await experiments.go()")
     with open(f"{folder}/emergency.csv", "w", encoding="utf-8") as file:
@@ -114,7 +114,7 @@ def compare_since(browser, check, given, folder):
     with open(f"{folder}/steady.csv", "w", encoding="utf-8") as file:
         file.write(said)
     said, _ = tool(["means", "N", "average", "steady.csv"], folder)
-    check("and its mean", told(table(browser, "average")[0])[1] == said.split(None, 1)[1].strip(), said)
+    check("and its mean", labelled(table(browser, "average")[0])[1] == said.split(None, 1)[1].strip(), said)
     set_designs(browser, [["bank", given["examples"]["bank"], ""]])
     ask(browser, "600", "1", "100000", "3", "550")
     browser.run("await experiments.go()")

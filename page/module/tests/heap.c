@@ -93,7 +93,7 @@ static void reuse(void) {
     rattle_dealloc(0);
     held(rattle_alloc(0, 16).found && rattle_realloc(second, 0, 0, 8).block == second);
     held(rattle_realloc(0, 0, 10, 1).found);
-    // The last block grows where it stands, another one moves, and what is asked for less stays.
+    // The last block grows in place, another one moves, and what is asked for less stays.
     byte *last = rattle_alloc(1000, 8).block;
     memset(last, 7, 1000);
     held(rattle_realloc(last, 1000, 9000, 8).block == last && last[999] == 7);
