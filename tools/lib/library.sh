@@ -31,7 +31,7 @@ find_program() {
     command -v "$program" >/dev/null || no_answer "no program: $program can't be run"
     [ -z "${SIGMA-}" ] && [ "$program" = "${tools%/*}/sigma" ] && [ -f "${tools%/*}/crates.txt" ] || return 0
     program=${tools%/*}/crates/sigma_cli/out/sigma_cli
-    [ -x "$program" ] || no_answer "not built: ./sigma builds it (half an hour), ./first-look answers in three minutes"
+    [ -x "$program" ] || no_answer "not built: ./sigma builds it (half an hour), ./first-look answers in two minutes"
 }
 
 # library: the text of the tools' awk functions, after which a tool puts its own: awk "$(library)"'..'.
