@@ -4,7 +4,7 @@
 
 BEGIN { families = split("exponential normal lognormal gamma erlang weibull triangular uniform poisson geometric", family, " ") }
 
-# What the fits are made of.
+# Sums over the times, which the fits need.
 function sum_up(   i) {
     for (i = 1; i <= n; i++) {
         mean += x[i] / n

@@ -273,12 +273,12 @@ function end_report() {
 
 # What a column says of an item. Where it says nothing that is 0, and `hole` says why.
 function worth(name, column,   here) {
-    here = told_of(name, column)
+    here = value_of(name, column)
     if (here == "" && hole[designs] == "") hole[designs] = missing
     return here
 }
 
-function told_of(name, column) {
+function value_of(name, column) {
     if (column == "time") return field("time")
     missing = name " is an event, which has a count, and no " column
     if (field("count") != "") return column == "count" ? field("count") : ""
