@@ -90,7 +90,7 @@ none_spelled : {A : Type 0} (f : LanguageFormat A) → fine level_lookahead f �
 none_spelled f ok tokens rest x e d = let g : and_next whole_read (language_reader f tokens) ≡ took x [] = spelled-is_all f ok tokens x d in absurd cc
 
 pub all-is_wrong : {A : Type 0} (f : LanguageFormat A) → fine level_lookahead f ≡ true → (text : List ℕ) (tokens rest : List Lexeme) → and_next whole_read (language_reader f tokens) ≡ stuck rest → IsWrongAt f text tokens (wrong_place text rest)
-all-is_wrong f ok text tokens rest e = record { none = λ x d. none_spelled f ok tokens rest x e d; rest = rest; wrong = stuck_or_left f ok tokens rest (language_reader f tokens) refl e; told = refl }
+all-is_wrong f ok text tokens rest e = record { none = λ x d. none_spelled f ok tokens rest x e d; rest = rest; wrong = stuck_or_left f ok tokens rest (language_reader f tokens) refl e; at_rest = refl }
 
 pub spelled_or_wrong : {A : Type 0} (f : LanguageFormat A) → fine level_lookahead f ≡ true → (text : List ℕ) (tokens : List Lexeme) → ((x : A) × Spells level_format f tokens x []) ⊎ ((at : ℕ) × IsWrongAt f text tokens at)
 spelled_or_wrong {A} f ok text tokens = go (and_next whole_read (language_reader f tokens)) refl
@@ -145,7 +145,7 @@ one_first_wrong f tokens r s a b = elim (two_fronts a.front r b.front s (sym a.w
 ]
 
 pub one_wrong_place : {A : Type 0} (f : LanguageFormat A) (text : List ℕ) (tokens : List Lexeme) (i j : ℕ) → IsWrongAt f text tokens i → IsWrongAt f text tokens j → i ≡ j
-one_wrong_place f text tokens i j a b = sym a.told ∙ ap (wrong_place text) (one_first_wrong f tokens a.rest b.rest a.wrong b.wrong) ∙ b.told
+one_wrong_place f text tokens i j a b = sym a.at_rest ∙ ap (wrong_place text) (one_first_wrong f tokens a.rest b.rest a.wrong b.wrong) ∙ b.at_rest
 
 pub one_place : (text : List ℕ) (tokens : List Lexeme) (i j : ℕ) → IsUnexpectedAt text tokens i → IsUnexpectedAt text tokens j → i ≡ j
 one_place text tokens i j a b = one_wrong_place text_format text tokens i j a b
