@@ -1,9 +1,9 @@
 -- The places that are marked by passes over pairs are those that are entailed.
 use Rattle.std.proofs.Common.{◌≡◌, ◌⊎◌, inl, inr, ℕ, zero, suc, ◌<◌, ◌==◌, Bool, true, ◌&&◌, ◌||◌, List, length, map, refl, sym, subst, arith, ◌∙◌}
-use Rattle.std.proofs.lemmas.Bool.Decides.{nat_tests}
 use Rattle.std.specs.List.{range_with_len}
 use Rattle.std.proofs.lemmas.List.FromFn.{length-map-range_with_len}
-use Rattle.std.proofs.lemmas.Bool.{and_from, and_parts}
+use Rattle.std.proofs.lemmas.Bool.{and_from, and_parts, eqb-true}
+pub use Rattle.std.proofs.lemmas.Bool.{eqb-true as same-place}
 use Rattle.model_core.specs.Rules.MarkedPlaces.{is_marked, is_among, passes}
 use Rattle.model_core.specs.Rules.Entailed.{is_entailed_by, one_pair_further, entailed_marks}
 use Rattle.model_core.specs.Rules.LeastRelations.{Entailed, from_first, over_pair}
@@ -13,11 +13,8 @@ use Rattle.model_core.proofs.PlacesChanged.{same_number}
 use Rattle.model_core.proofs.Among.{Among, among-contained, contained-among, either_true, first_true, second_true, any-among, among-any}
 use Rattle.mark_laws.proofs.MarksBelow.{marked-within, below-by_places, equal-by_places, tested-marked, marked-tested}
 
-pub same-place : (a b : ℕ) → (a == b) ≡ true → a ≡ b
-same-place a b e = grind (arith, nat_tests)
-
 pub among-place : (places : List ℕ) (k : ℕ) → is_among places k ≡ true → Among k places
-among-place places k e = let (j, among, is) = any-among (λ j. j == k) places e in subst (λ (i : ℕ). Among i places) (same-place j k is) among
+among-place places k e = let (j, among, is) = any-among (λ j. j == k) places e in subst (λ (i : ℕ). Among i places) (eqb-true j k is) among
 
 pub place-among : (places : List ℕ) (k : ℕ) → Among k places → is_among places k ≡ true
 place-among places k among = among-any (λ j. j == k) places k among (same_number k k refl)
@@ -26,7 +23,7 @@ pub entailed-by : (marks : List Bool) (pairs : List (ℕ × ℕ)) (k : ℕ) → 
 entailed-by marks pairs k e =
     let ((i, j), among, passes) = any-among (λ ((i, j) : ℕ × ℕ). is_marked marks i && (j == k)) pairs e in
     let (marked, same) = and_parts (is_marked marks i) (j == k) passes in
-    (i, marked, subst (λ (n : ℕ). Among (i, n) pairs) (same-place j k same) among)
+    (i, marked, subst (λ (n : ℕ). Among (i, n) pairs) (eqb-true j k same) among)
 
 pub by-entailed : (marks : List Bool) (pairs : List (ℕ × ℕ)) (j k : ℕ) → Marked marks j → Among (j, k) pairs → is_entailed_by marks pairs k ≡ true
 by-entailed marks pairs j k marked among = among-any (λ ((i, n) : ℕ × ℕ). is_marked marks i && (n == k)) pairs (j, k) among (and_from (is_marked marks j) (k == k) marked (same_number k k refl))

@@ -4,7 +4,8 @@ use Rattle.std.specs.Prelude.{filter}
 use Rattle.std.specs.List.{range_with_len, list_any}
 use lib.Pointwise.{pointwise}
 use Rattle.std.proofs.lemmas.List.FromFn.{length-map-range_with_len}
-use Rattle.std.proofs.lemmas.Bool.{not-true, cases_Bool}
+use Rattle.std.proofs.lemmas.Bool.{not-true, cases_Bool, eqb-true}
+use Rattle.sig_base.proofs.Tests.{not_both}
 use Rattle.model_core.specs.Rules.Conditions.{first_failed}
 use Rattle.model_core.specs.Rules.MarkedPlaces.{is_marked, unmarked_places}
 use Rattle.model_core.specs.Rules.Drop.{is_nonempty_list, lists_exactly, staying_marks}
@@ -12,7 +13,6 @@ use Rattle.mark_laws.proofs.Marks.{Marked}
 use Rattle.model_core.proofs.Among.{Among, any-among, among-any, among-filter}
 use Rattle.mark_laws.proofs.MarksBelow.{marked-within, equal-by_places, tested-marked, marked-tested}
 use Rattle.model_core.proofs.PlacesChanged.{same_number}
-use Rattle.mark_laws.proofs.EntailedMarks.{same-place}
 
 among-range : (a n k : ℕ) → k < n → Among (a + k) (range_with_len a n)
 among-range a zero k below = absurd (omega arith)
@@ -29,10 +29,6 @@ filter-passes {A} test (y ∷ ys) x h = tested (test y) refl h (filter-passes te
   tested true is (inl e) go = ap test (sym e) ∙ is
   tested true is (inr there) go = go there
   tested false is there go = go there
-
-not_both : (b : Bool) → b ≡ true → b ≡ false → ⊥
-not_both true e f = cc
-not_both false e f = cc
 
 -- where the unmarked places go, the marks stay
 pub staying-unmarked : (marks : List Bool) → staying_marks (unmarked_places marks) (length marks) ≡ marks
@@ -63,7 +59,7 @@ staying-unmarked marks = equal-by_places (staying_marks (unmarked_places marks) 
     by (inl gone) =
         let (v, there, is) = any-among (λ v. v == k) (unmarked_places marks) gone in
         let unmarked = filter-passes (λ k. not (is_marked marks k)) (range_with_len 0 (length marks)) v there in
-        absurd (not_both (is_marked marks k) marked (not-true (is_marked marks k) (ap (λ j. not (is_marked marks j)) (sym (same-place v k is)) ∙ unmarked)))
+        absurd (not_both (is_marked marks k) marked (not-true (is_marked marks k) (ap (λ j. not (is_marked marks j)) (sym (eqb-true v k is)) ∙ unmarked)))
     by (inr stay) = tested-marked stays (length marks) k (marked-within marks k marked) (ap not stay)
 
 -- ---- equal lists of places
@@ -74,7 +70,7 @@ exactly-equal [] (y ∷ b) e = cc
 exactly-equal (x ∷ a) [] e = cc
 exactly-equal (x ∷ a) (y ∷ b) e = by (nat_eq x y) refl e (exactly-equal a b) where
   by : (t : Bool) → nat_eq x y ≡ t → (t && pointwise nat_eq a b) ≡ true → (pointwise nat_eq a b ≡ true → a ≡ b) → x ∷ a ≡ y ∷ b
-  by true same rest go = ap₂ (λ k ks. k ∷ ks) (same-place x y same) (go rest)
+  by true same rest go = ap₂ (λ k ks. k ∷ ks) (eqb-true x y same) (go rest)
   by false same rest go = cc
 
 -- ---- the two conditions of a rule that takes a list away

@@ -10,6 +10,7 @@ use Rattle.model_core.specs.Run.State.{State, Place, no_variable, cell_at, cell_
 use Rattle.model_core.specs.Run.Value.{OrFault, ◌>>=◌, number_of, value_of, indexed}
 use Rattle.model_core.specs.EventGraph.{EventGraph, Variable, Expression, Number, Truth, Clock, Scalar, Cell, Negative, Not, Binary, If, Add, Subtract, Multiply, Divide, Remainder, Least, Greatest, Equal, NotEqual, Below, AtMost, Above, AtLeast, And, Or}
 use Rattle.std.specs.Ordering.{int_eq}
+use Rattle.sig_base.proofs.Tests.{true-int_le}
 use Rattle.model_core.specs.declared.bounds.Bounds.{Bounds}
 use Rattle.model_core.specs.Rules.BoundsTable.{number_bounds, truth_bounds, kind_bounds, variable_bounds, quiet_index, equal_bounds, exact_bounds, quotient_bounds, has_zero, magnitude, bounds_of_ends}
 use Rattle.model_core.specs.Rules.BoundsOf.{Guard, ranged_at, bounds_under}
@@ -17,7 +18,7 @@ use Rattle.model_core.specs.Static.HasKind.{IsVariable, HasKind}
 use Rattle.model_core.specs.Rules.BoundsHold.{NumberIn, TruthIn, IsIn}
 use Rattle.model_core.specs.Rules.RangesHold.{LikeDeclared, ZeroToOne, LiesWithin, GuardHolds}
 use Rattle.bound_laws.proofs.Soundness.Promise.{HasShape, NumberShape, BoundsHold, BoundsAlwaysHold}
-use Rattle.bound_laws.proofs.Soundness.Ends.{le_of, lt_of}
+use Rattle.bound_laws.proofs.Soundness.Ends.{lt_of}
 use Rattle.model_core.proofs.BothTrue.{and_first, and_second}
 use Rattle.bound_laws.proofs.Soundness.NumberRows.{number_shape, exact_bounds-shape, truth_shape, add_sound, subtract_sound, multiply_sound, negate_sound, divide_sound, remainder_sound, least_sound, greatest_sound, below_sound, above_sound, at_most_sound, at_least_sound}
 use Rattle.bound_laws.proofs.Soundness.TruthRows.{not_sound, and_sound, or_sound, equal_shape, equal_sound_numbers, equal_sound_truths, not_equal_sound, if_sound, chosen_shape}
@@ -117,7 +118,7 @@ index_named g v w b r size h e =
     let before = and_first (b.quiet && int_le (pos 0) b.lo) _ e in
     let (y, is) = h.safe (and_first b.quiet _ before) in
     let i : NumberIn b y = h.inside y is in
-    let low : pos 0 ≤ℤ b.lo = le_of (pos 0) b.lo (and_second b.quiet _ before) in
+    let low : pos 0 ≤ℤ b.lo = true-int_le (pos 0) b.lo (and_second b.quiet _ before) in
     let high : b.hi <ℤ pos (variable_at g v).size = subst (λ n. b.hi <ℤ pos n) size (lt_of b.hi (pos w.size) (and_second (b.quiet && int_le (pos 0) b.lo) _ e)) in
     let (p, at, of) = index_at g v y (omega (arith, ints)) (omega (arith, ints)) in
     (p, rw is at, of)

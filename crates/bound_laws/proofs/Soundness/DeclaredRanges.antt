@@ -1,5 +1,6 @@
 -- A state in range lies within the declared ranges, so bounds hold in it.
 use Rattle.std.proofs.Common.{ℕ, ◌≤◌, ◌^◌, IsTrue, int_le, refl}
+use Rattle.sig_base.proofs.Tests.{true-int_le}
 use Rattle.model_core.specs.declared.model.Kind.{Kind}
 use Rattle.model_core.specs.EventGraph.{EventGraph, Expression}
 use Rattle.model_core.specs.Run.State.{State, in_range}
@@ -10,13 +11,12 @@ use Rattle.model_core.specs.Rules.RangesHold.{LikeDeclared, LiesWithin, GuardHol
 use Rattle.bound_laws.proofs.Soundness.Promise.{BoundsHold}
 use Rattle.model_core.proofs.BothTrue.{and_first, and_second}
 use Rattle.run_laws.proofs.InRange.{cells_lie_in_range}
-use Rattle.bound_laws.proofs.Soundness.Ends.{le_of}
 use Rattle.bound_laws.proofs.Soundness.BoundedExpressions.{sound}
 
 pub declared_hold : (g : EventGraph) (s : State) → IsTrue (in_range g s) → TruthsAreDeclared g.variables → LiesWithin s g.variables
 declared_hold g s e declared = record {
-  low = λ v i small. le_of _ _ (and_first (int_le (ranged_at g.variables v).lo _) _ (cells_lie_in_range g s v i e small));
-  high = λ v i small. le_of _ _ (and_second (int_le (ranged_at g.variables v).lo _) _ (cells_lie_in_range g s v i e small));
+  low = λ v i small. true-int_le _ _ (and_first (int_le (ranged_at g.variables v).lo _) _ (cells_lie_in_range g s v i e small));
+  high = λ v i small. true-int_le _ _ (and_second (int_le (ranged_at g.variables v).lo _) _ (cells_lie_in_range g s v i e small));
   zero_one = declared;
 }
 

@@ -6,6 +6,7 @@ use Rattle.std.proofs.lemmas.Int.{ints, clamps}
 use Rattle.std.proofs.lemmas.Bool.Decides.{nat_tests}
 use Rattle.std.proofs.lemmas.Bool.{and_parts}
 use Rattle.sig_base.specs.declared.fault.FaultKind.TheVariants as faults
+use Rattle.sig_base.proofs.Tests.{int_le-true, true-int_le}
 use Rattle.model_core.specs.declared.model.Kind.{Kind}
 use Rattle.model_core.specs.declared.model.Kind.TheVariants as kinds
 use Rattle.model_core.specs.Run.State.{within}
@@ -15,19 +16,19 @@ use Rattle.model_core.specs.Rules.BoundsTable.{number_bounds, truth_bounds, lowe
 use Rattle.model_core.specs.Rules.BoundsHold.{NumberIn, TruthIn, IsIn}
 use Rattle.bound_laws.proofs.Soundness.Promise.{HasShape, NumberShape, TruthShape, BoundsHold}
 use Rattle.model_core.proofs.BothTrue.{and_first, and_second}
-use Rattle.bound_laws.proofs.Soundness.Ends.{le_of, of_le, lt_of, of_lt, of_not_lt, of_not_le, nearest_low, nearest_high, Between, four_low, four_high, times_left, times_right, quot_left, quot_right, quot_size, size_low, size_high, size_in, rem_low, rem_high, rem_below_all}
+use Rattle.bound_laws.proofs.Soundness.Ends.{lt_of, of_lt, of_not_lt, of_not_le, nearest_low, nearest_high, Between, four_low, four_high, times_left, times_right, quot_left, quot_right, quot_size, size_low, size_high, size_in, rem_low, rem_high, rem_below_all}
 
 exact-cases : (b : Bool) (x z : ℤ) → within lowest highest x ≡ b → (let r : OrFault ℤ = cond b (Ok x) (Err faults.Overflow) in r ≡ Ok z) → (x ≡ z) × (lowest ≤ℤ z) × (z ≤ℤ highest)
 exact-cases true x z e done =
     let same : x ≡ z = cc in
-    (same, subst (λ y. lowest ≤ℤ y) same (le_of lowest x (and_first _ _ e)), subst (λ y. y ≤ℤ highest) same (le_of x highest (and_second (int_le lowest x) _ e)))
+    (same, subst (λ y. lowest ≤ℤ y) same (true-int_le lowest x (and_first _ _ e)), subst (λ y. y ≤ℤ highest) same (true-int_le x highest (and_second (int_le lowest x) _ e)))
 exact-cases false x z e done = cc
 
 exact_ok : (x z : ℤ) → exact x ≡ Ok z → (x ≡ z) × (lowest ≤ℤ z) × (z ≤ℤ highest)
 exact_ok x z e = exact-cases (within lowest highest x) x z refl e
 
 exact_within : (x : ℤ) → lowest ≤ℤ x → x ≤ℤ highest → exact x ≡ Ok x
-exact_within x p q = rw (of_le lowest x p, of_le x highest q) refl
+exact_within x p q = rw (int_le-true lowest x p, int_le-true x highest q) refl
 
 -- an exact result between two ends lies between the nearest ones
 exact_bounds-in : (l h x z : ℤ) (q : Bool) → l ≤ℤ x → x ≤ℤ h → exact x ≡ Ok z → NumberIn (exact_bounds l h q) z
@@ -44,8 +45,8 @@ exact_bounds-safe : (l h x : ℤ) (q : Bool) → (exact_bounds l h q).quiet ≡ 
 unfolding exact_bounds
 exact_bounds-safe l h x q e low high =
     let both = and_second q (fits l && fits h) e in
-    let from = le_of lowest l (and_first (int_le lowest l) (int_le l highest) (and_first (fits l) (fits h) both)) in
-    let to = le_of h highest (and_second (int_le lowest h) (int_le h highest) (and_second (fits l) (fits h) both)) in
+    let from = true-int_le lowest l (and_first (int_le lowest l) (int_le l highest) (and_first (fits l) (fits h) both)) in
+    let to = true-int_le h highest (and_second (int_le lowest h) (int_le h highest) (and_second (fits l) (fits h) both)) in
     (x, exact_within x (omega (arith, ints)) (omega (arith, ints)))
 
 pub number_shape : {lo hi : ℤ} {q : Bool} → NumberShape (number_bounds lo hi q)
@@ -130,8 +131,8 @@ not_zero (negsuc n) h = refl
 
 outside : (b : Bounds) → has_zero b ≡ false → b.lo ≤ℤ pos 0 → pos 0 ≤ℤ b.hi → ⊥
 outside b e p q =
-    let gone : int_le (pos 0) b.hi ≡ false = subst (λ t. (t && int_le (pos 0) b.hi) ≡ false) (of_le b.lo (pos 0) p) e in
-    let there = of_le (pos 0) b.hi q in cc
+    let gone : int_le (pos 0) b.hi ≡ false = subst (λ t. (t && int_le (pos 0) b.hi) ≡ false) (int_le-true b.lo (pos 0) p) e in
+    let there = int_le-true (pos 0) b.hi q in cc
 
 quot_turns : (a b : Bounds) → has_zero b ≡ false → (x y : ℤ) → NumberIn a x → NumberIn b y → Between (int_div a.lo b.lo) (int_div x b.lo) (int_div a.hi b.lo) × Between (int_div a.lo b.hi) (int_div x b.hi) (int_div a.hi b.hi) × Between (int_div x b.lo) (int_div x y) (int_div x b.hi)
 quot_turns a b e x y i j = (quot_left b.lo a.lo x a.hi i.low i.high, quot_left b.hi a.lo x a.hi i.low i.high, quot_right x b.lo y b.hi j.low j.high (outside b e))
@@ -181,11 +182,11 @@ remainder_sound a b r s p q =
 -- least and greatest
 
 least-cases : (t : Bool) (a b : Bounds) (x y : ℤ) → int_le x y ≡ t → NumberIn a x → NumberIn b y → NumberIn (number_bounds (int_min a.lo b.lo) (int_min a.hi b.hi) (a.quiet && b.quiet)) (cond t x y)
-least-cases true a b x y e i j = record { low = omega (arith, ints, clamps); high = omega (arith, ints, clamps, le_of x y e) }
+least-cases true a b x y e i j = record { low = omega (arith, ints, clamps); high = omega (arith, ints, clamps, true-int_le x y e) }
 least-cases false a b x y e i j = record { low = omega (arith, ints, clamps); high = omega (arith, ints, clamps, of_not_le x y e) }
 
 greatest-cases : (t : Bool) (a b : Bounds) (x y : ℤ) → int_le x y ≡ t → NumberIn a x → NumberIn b y → NumberIn (number_bounds (int_max a.lo b.lo) (int_max a.hi b.hi) (a.quiet && b.quiet)) (cond t y x)
-greatest-cases true a b x y e i j = record { low = omega (arith, ints, clamps, le_of x y e); high = omega (arith, ints, clamps) }
+greatest-cases true a b x y e i j = record { low = omega (arith, ints, clamps, true-int_le x y e); high = omega (arith, ints, clamps) }
 greatest-cases false a b x y e i j = record { low = omega (arith, ints, clamps, of_not_le x y e); high = omega (arith, ints, clamps) }
 
 pub greatest_sound : (a b : Bounds) (r s : OrFault ℤ) → BoundsHold kinds.Range a r → BoundsHold kinds.Range b s → BoundsHold kinds.Range (number_bounds (int_max a.lo b.lo) (int_max a.hi b.hi) (a.quiet && b.quiet)) (r >>= λ x. s >>= λ y. Ok (cond (int_le x y) y x))
@@ -220,7 +221,7 @@ below_sound a b r s p q =
     two kinds.Range kinds.Range kinds.Truth a b _ (λ x y. Ok (number_of (int_lt x y))) truth_shape
     (λ x y z i j e.
     let same : number_of (int_lt x y) ≡ z = cc in
-    subst (λ w. TruthIn (below_bounds a b) w) same (answers _ _ _ (int_lt x y) (λ e. of_lt a.lo b.hi (omega (arith, ints, lt_of x y e))) (λ e. of_le b.lo a.hi (omega (arith, ints, of_not_lt x y e)))))
+    subst (λ w. TruthIn (below_bounds a b) w) same (answers _ _ _ (int_lt x y) (λ e. of_lt a.lo b.hi (omega (arith, ints, lt_of x y e))) (λ e. int_le-true b.lo a.hi (omega (arith, ints, of_not_lt x y e)))))
     (λ e. and_parts _ _ e)
     (λ e x y i j. (_, refl))
     r s p q
@@ -231,7 +232,7 @@ above_sound a b r s p q =
     two kinds.Range kinds.Range kinds.Truth a b _ (λ x y. Ok (number_of (int_lt y x))) truth_shape
     (λ x y z i j e.
     let same : number_of (int_lt y x) ≡ z = cc in
-    subst (λ w. TruthIn (below_bounds b a) w) same (answers _ _ _ (int_lt y x) (λ e. of_lt b.lo a.hi (omega (arith, ints, lt_of y x e))) (λ e. of_le a.lo b.hi (omega (arith, ints, of_not_lt y x e)))))
+    subst (λ w. TruthIn (below_bounds b a) w) same (answers _ _ _ (int_lt y x) (λ e. of_lt b.lo a.hi (omega (arith, ints, lt_of y x e))) (λ e. int_le-true a.lo b.hi (omega (arith, ints, of_not_lt y x e)))))
     (λ e. let (u, v) = and_parts b.quiet a.quiet e in (v, u))
     (λ e x y i j. (_, refl))
     r s p q
@@ -241,7 +242,7 @@ at_most_sound a b r s p q =
     two kinds.Range kinds.Range kinds.Truth a b _ (λ x y. Ok (number_of (int_le x y))) truth_shape
     (λ x y z i j e.
     let same : number_of (int_le x y) ≡ z = cc in
-    subst (λ w. TruthIn (at_most_bounds a b) w) same (answers _ _ _ (int_le x y) (λ e. of_le a.lo b.hi (omega (arith, ints, le_of x y e))) (λ e. of_lt b.lo a.hi (omega (arith, ints, of_not_le x y e)))))
+    subst (λ w. TruthIn (at_most_bounds a b) w) same (answers _ _ _ (int_le x y) (λ e. int_le-true a.lo b.hi (omega (arith, ints, true-int_le x y e))) (λ e. of_lt b.lo a.hi (omega (arith, ints, of_not_le x y e)))))
     (λ e. and_parts _ _ e)
     (λ e x y i j. (_, refl))
     r s p q
@@ -251,7 +252,7 @@ at_least_sound a b r s p q =
     two kinds.Range kinds.Range kinds.Truth a b _ (λ x y. Ok (number_of (int_le y x))) truth_shape
     (λ x y z i j e.
     let same : number_of (int_le y x) ≡ z = cc in
-    subst (λ w. TruthIn (at_most_bounds b a) w) same (answers _ _ _ (int_le y x) (λ e. of_le b.lo a.hi (omega (arith, ints, le_of y x e))) (λ e. of_lt a.lo b.hi (omega (arith, ints, of_not_le y x e)))))
+    subst (λ w. TruthIn (at_most_bounds b a) w) same (answers _ _ _ (int_le y x) (λ e. int_le-true b.lo a.hi (omega (arith, ints, true-int_le y x e))) (λ e. of_lt a.lo b.hi (omega (arith, ints, of_not_le y x e)))))
     (λ e. let (u, v) = and_parts b.quiet a.quiet e in (v, u))
     (λ e x y i j. (_, refl))
     r s p q

@@ -4,7 +4,7 @@ use Rattle.std.specs.Int.{int_min, int_max}
 use Rattle.std.specs.Ordering.{int_eq}
 use Rattle.std.proofs.lemmas.Int.{ints, clamps}
 use Rattle.std.proofs.lemmas.Bool.{or_left, or_right, and_from, and_parts}
-use Rattle.std.proofs.lemmas.Bool.Decides.{nat_tests, Decides-int_eq}
+use Rattle.sig_base.proofs.Tests.{int_le-true, int_eq-true}
 use Rattle.model_core.specs.declared.model.Kind.{Kind}
 use Rattle.model_core.specs.declared.model.Kind.TheVariants as kinds
 use Rattle.model_core.specs.Run.Value.{OrFault, ◌>>=◌, number_of, is_one}
@@ -13,7 +13,6 @@ use Rattle.model_core.specs.declared.bounds.Bounds.{Bounds}
 use Rattle.model_core.specs.Rules.BoundsTable.{truth_bounds, opposite, equal_bounds, of_truth_value, operator_bounds, chosen_bounds, either_bounds}
 use Rattle.model_core.specs.Rules.BoundsHold.{NumberIn, TruthIn, IsIn}
 use Rattle.bound_laws.proofs.Soundness.Promise.{HasShape, NumberShape, TruthShape, BoundsHold}
-use Rattle.bound_laws.proofs.Soundness.Ends.{of_le}
 use Rattle.model_core.proofs.BothTrue.{and_first, and_second}
 use Rattle.model_core.proofs.SameExpressions.{true-int_eq}
 use Rattle.bound_laws.proofs.Soundness.NumberRows.{two, truth_shape, answers}
@@ -109,11 +108,8 @@ or_sound a b (Err f) s p q = record { shape = truth_shape; inside = λ z e. cc; 
 
 -- equality
 
-of_eq : (x y : ℤ) → x ≡ y → int_eq x y ≡ true
-of_eq x y e = grind (arith, nat_tests, Decides-int_eq)
-
 pub differ : (x y : ℤ) → int_eq x y ≡ false → x ≡ y → ⊥
-differ x y e same = let is = of_eq x y same in cc
+differ x y e same = let is = int_eq-true x y same in cc
 
 equal_numbers-false : (t : Bool) (a b : Bounds) (x y : ℤ) → (int_eq a.lo a.hi && int_eq a.hi b.lo && int_eq b.lo b.hi) ≡ t → NumberIn a x → NumberIn b y → int_eq x y ≡ false → not t ≡ true
 equal_numbers-false false a b x y e i j differ = refl
@@ -122,13 +118,13 @@ equal_numbers-false true a b x y e i j differ =
     let two : a.hi ≡ b.lo = true-int_eq a.hi b.lo (and_second (int_eq a.lo a.hi) _ (and_first _ _ e)) in
     let three : b.lo ≡ b.hi = true-int_eq b.lo b.hi (and_second (int_eq a.lo a.hi && int_eq a.hi b.lo) _ e) in
     let same : x ≡ y = omega (arith, ints) in
-    let never = of_eq x y same in cc
+    let never = int_eq-true x y same in cc
 
 equal_numbers : (a b : Bounds) (x y : ℤ) → NumberShape a → NumberIn a x → NumberIn b y → TruthIn (equal_bounds a b) (number_of (int_eq x y))
 equal_numbers a b x y shape i j =
     rw (shape.not_false, shape.not_true)
     (answers _ _ (a.quiet && b.quiet) (int_eq x y)
-    (λ e. let same : x ≡ y = true-int_eq x y e in and_from _ _ (of_le a.lo b.hi (omega (arith, ints))) (of_le b.lo a.hi (omega (arith, ints))))
+    (λ e. let same : x ≡ y = true-int_eq x y e in and_from _ _ (int_le-true a.lo b.hi (omega (arith, ints))) (int_le-true b.lo a.hi (omega (arith, ints))))
     (λ e. equal_numbers-false _ a b x y refl i j e))
 
 equal_quiet : (t q : Bool) (a b c d : Bool) → (cond t (truth_bounds a b q) (truth_bounds c d q)).quiet ≡ q
