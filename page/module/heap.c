@@ -14,7 +14,7 @@ enum { KINDS = 128, LEAST = 32 };
 
 static Head *freed[KINDS];
 static byte *top;       // where no block was made yet
-static size nowhere[2]; // the place of a block that isn't there
+static size nowhere[2]; // the place of a block that doesn't exist
 
 // The bytes of a block of this kind, with its head: 32, 48, 48, 64, 64, 80, 96, 112, 128, 160 ..
 static size size_of(size kind) { return (((4 + kind % 4) << (kind / 4 + 3)) + 15) & ~(size)15; }

@@ -8,7 +8,7 @@ typedef long count; // a number of bytes, or -1
 
 _Static_assert(sizeof(size) == 8 && sizeof(void *) == 8, "numbers and addresses of 64 bits");
 
-// Where the heap begins, and where the memory that is there ends. memory.c says so of WebAssembly's memory.
+// The beginning of the heap, and the end of the memory. memory.c has both for WebAssembly.
 byte *memory_begin(void);
 byte *memory_end(void);
 

@@ -27,8 +27,8 @@ function indent_before(text, place) {
   return /^\s*$/.test(before) ? before : null;
 }
 
-// Puts an item on a line of its own next to the place, after a comment that is there. Where the line goes on, the item
-// goes between what is there.
+// Puts an item on a line of its own next to the place, after a comment there. If the line goes on, the item goes between
+// its parts.
 function insert_after(text, place, item, indent, field) {
   const rest = /^[^\n]*/.exec(text.slice(place))[0];
   if (indent === null || !/^\s*(#.*)?$/.test(rest)) return { from: place, to: place, text: " " + item, field };

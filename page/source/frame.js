@@ -152,7 +152,7 @@ const report = {
   },
   start() {
     at("report").onclick = report.print;
-    // The browser's own print asks for no time: what is there is filled as models are shown.
+    // The browser's own print gives no time to prepare, so its parts are filled whenever a model is shown.
     addEventListener("beforeprint", () => { report.fill().catch(() => { }); });
   },
 };

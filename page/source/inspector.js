@@ -57,7 +57,7 @@ const inspector = {
     if (from !== undefined && from !== null && control.setSelectionRange) control.setSelectionRange(from, to);
   },
 
-  // Puts the keyboard into a field, now or when its form is there.
+  // Puts the keyboard into a field, now or as soon as its form is shown.
   focus(name) {
     const control = inspector.control(name);
     inspector.wanted = control ? null : name;

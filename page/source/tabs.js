@@ -1,7 +1,7 @@
 // The panel under the graph. The file of a tab adds the tab here, and its HTML is tabs/NAME.html, a section
 // `tab-NAME`.
 //
-// A tab has a name and a title, and any of these calls: `start()` once, when the page is there; `shown()` and
+// A tab has a name and a title, and any of these calls: `start()` once, when the page is ready; `shown()` and
 // `hidden()` when it is opened and left; `model_changed(model)` after each text that the program accepts, before its
 // graph is drawn. Tabs ask the page for `app.model` (what `print` says), `app.fresh` (the model is that of the text
 // as it is now), `app.refusal`, `app.file` (the name of the text), `app.set_text(text)` and `app.picture` (the

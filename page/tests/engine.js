@@ -33,7 +33,7 @@ check("there is something to stop", engine.stop("test"));
 const stopped = await running;
 check("Stop is reported", stopped instanceof Superseded && stopped.came.stopped && stopped.came.status === null);
 check("Stop keeps what came", stopped.came.written >= 1e6 && stopped.came.out.startsWith("at 0 N=1\nat 1 N=2\n") && stopped.came.out.length === stopped.came.written, stopped.came.out.slice(0, 40));
-check("nothing is there to stop", !engine.stop("test") && !engine.busy("test"));
+check("there is nothing to stop", !engine.stop("test") && !engine.busy("test"));
 const silent = engine.call("test", endless_words, "model E;\nvertex V {\n  schedule V;\n}\nend\n").catch(problem => problem);
 await wait(200);
 const since = performance.now();

@@ -70,7 +70,7 @@ def differences(browser, calls):
 
 def test(browser, check, given, shots):
     if not os.path.exists(program()):
-        check(f"the native program {program()} is there", False)
+        check(f"the native program {program()} exists", False)
         return
 
     cases = stored_cases()

@@ -89,7 +89,7 @@ const slowness = Math.max(1, (performance.now() - began) / 100);
 const since = performance.now();
 await app.set_text(given.large, "large.sigma");
 const took = performance.now() - since;
-check("500 vertices are there", all("#picture .node").length === 500 && app.fresh);
+check("500 vertices are drawn", all("#picture .node").length === 500 && app.fresh);
 check("they are laid out and drawn in 2 s", took < 2000 * slowness, [took, slowness, app.times]);
 check("at first no smaller than can be read", app.picture.view.k >= 0.4);
 await app.set_text(given.examples.bank, "bank.sigma");

@@ -135,7 +135,7 @@ def compare_welch(browser, check, given, folder):
 
 def test(browser, check, given, shots):
     if not os.access(PROGRAM, os.X_OK):
-        check("the program to compare with is there", False, PROGRAM)
+        check("the program to compare with exists", False, PROGRAM)
         return
     with tempfile.TemporaryDirectory() as folder:
         compare_means(browser, check, given, folder)
