@@ -45,9 +45,9 @@ refused a words e kinds is other =
     fault_there e (fault_of (command_line option_names) words) _ (subst (λ (b : App). is_simple_and_free b ≡ true → HasKind (fault_of b words) e) is kinds clap_is_simple) other
 
 -- the job that the matches ask for is that of the words
-pub job_told : (words named : List Text) (given found : Option ArgMatches) → false ≡ list_any has_one_dash words → named ≡ codes "sigma" ∷ words → given ≡ found → option_map rows_in given ≡ clap_rows named
+pub job_of_matches : (words named : List Text) (given found : Option ArgMatches) → false ≡ list_any has_one_dash words → named ≡ codes "sigma" ∷ words → given ≡ found → option_map rows_in given ≡ clap_rows named
     → job_of words ≡ option_and_then (λ m. matched_job (rows_in m)) found
-job_told words named given found no_dash is same rows =
+job_of_matches words named given found no_dash is same rows =
     matched_job_is (codes "sigma") words (sym no_dash) ∙ ap (λ ws. option_and_then matched_job (clap_rows ws)) (sym is) ∙ ap (option_and_then matched_job) (sym rows)
     ∙ ap (λ o. option_and_then matched_job (option_map rows_in o)) same ∙ go found
   where
@@ -56,15 +56,15 @@ job_told words named given found no_dash is same rows =
     go (Some m) = refl
 
 -- what an answer says of the words
-pub told_ok : (job asked : Option Job) (answer : Result Job WordsError) → job ≡ asked → Asked asked answer → IfOk answer (λ j. job ≡ Some j)
-told_ok job asked (Ok j) is told = is ∙ told
-told_ok job asked (Err e) is told = tt
+pub job_answered : (job asked : Option Job) (answer : Result Job WordsError) → job ≡ asked → Asked asked answer → IfOk answer (λ j. job ≡ Some j)
+job_answered job asked (Ok j) is answered = is ∙ answered
+job_answered job asked (Err e) is answered = tt
 
-pub told_bad : (job asked : Option Job) (answer : Result Job WordsError) → job ≡ asked → Asked asked answer → IsErrOf answer errors.BadWords → job ≡ None
-told_bad job asked (Ok j) is told bad = absurd (cc bad)
-told_bad job asked (Err errors.BadWords) is told bad = is ∙ told
-told_bad job asked (Err errors.NoMemory) is told bad = absurd (cc bad)
+pub no_job_answered : (job asked : Option Job) (answer : Result Job WordsError) → job ≡ asked → Asked asked answer → IsErrOf answer errors.BadWords → job ≡ None
+no_job_answered job asked (Ok j) is answered bad = absurd (cc bad)
+no_job_answered job asked (Err errors.BadWords) is answered bad = is ∙ answered
+no_job_answered job asked (Err errors.NoMemory) is answered bad = absurd (cc bad)
 
-pub told_within : (words : List Text) (answer : Result Job WordsError) → IfOk answer (λ j. job_of words ≡ Some j) → IfOk answer (λ j. KeepsLimits (reading_of j))
-told_within words (Ok j) is = job_in_limits words j is
-told_within words (Err e) is = tt
+pub answer_within : (words : List Text) (answer : Result Job WordsError) → IfOk answer (λ j. job_of words ≡ Some j) → IfOk answer (λ j. KeepsLimits (reading_of j))
+answer_within words (Ok j) is = job_in_limits words j is
+answer_within words (Err e) is = tt

@@ -8,10 +8,10 @@ use Rattle.clap.specs.Facts.{explicit_source}
 use Rattle.clap.specs.Faults.{defaults_fault}
 use Rattle.clap.specs.Takes.{is_given}
 use Rattle.clap.specs.declared.error.kind.ErrorKind.TheVariants as kind
-use Rattle.command_words.proofs.KnownRules.{built_word, built_option, built_rules}
+use Rattle.command_words.proofs.RulesByName.{built_word, built_option, built_rules}
 use Rattle.command_words.proofs.JoinedArguments.{Arguments, rows_for, row_for, has_command}
 use Rattle.command_words.proofs.SettledArguments.{held_for}
-use Rattle.command_words.proofs.ClapTurns.{standing, taken}
+use Rattle.command_words.proofs.ClapTurns.{walk_between, rows_of_rest}
 use Rattle.command_words.specs.Inner.ClapCommand.{unless}
 
 -- no argument has a value that is usual
@@ -58,9 +58,9 @@ command_given (x ∷ given) = go (bytes_eq (row_for x).id (codes "command")) (co
     go false rest = rest
 
 -- the words end with the command among what is given
-pub ends : (names : List (List ℕ)) (given : Arguments) (waiting : Waiting) (position : ℕ) (is_behind : Bool)
-    → taken names (standing (held_for given None) waiting position is_behind) [] ≡ cond (has_command given) (Some (rows_for given)) None
-ends names given waiting position is_behind =
+pub ends : (names : List (List ℕ)) (given : Arguments) (waiting : Waiting) (position : ℕ) (is_after_dashes : Bool)
+    → rows_of_rest names (walk_between (held_for given None) waiting position is_after_dashes) [] ≡ cond (has_command given) (Some (rows_for given)) None
+ends names given waiting position is_after_dashes =
     rw (faults_are names (rows_for given), none_required names (fold with_default (rows_for given) (built_rules names)), defaults_are names (rows_for given), command_given given)
     (go (has_command given))
   where

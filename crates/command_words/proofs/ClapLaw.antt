@@ -7,18 +7,18 @@ use Rattle.clap.specs.Faults.{entered_fault, level_fault, walk_fault, is_simple_
 use Rattle.clap.specs.Simple.{App, built, entered, matches_of}
 use Rattle.clap.proofs.OnLiterals.{clap_on_literals}
 use Rattle.command_words.specs.Inner.ClapCommand.{clap_rows, command_line, has_one_dash, option_names, unless}
-use Rattle.command_words.proofs.KnownRules.{built_rules}
-use Rattle.command_words.proofs.ClapTurns.{built_shape, last_fault, taken, unless_first}
-use Rattle.command_words.proofs.ClapTakes.{behind, rows_with, takes_joined}
+use Rattle.command_words.proofs.RulesByName.{built_rules}
+use Rattle.command_words.proofs.ClapTurns.{built_shape, last_fault, rows_of_rest, unless_first}
+use Rattle.command_words.proofs.ClapTakes.{walk_after, rows_with, takes_joined}
 use Rattle.command_words.proofs.WholeArguments.{whole}
 
 -- the matches, where there is no fault
-taken_is : (names : List (List ℕ)) (words : List Text) (w : Walk)
-    → taken names w words ≡ unless (walk_fault (built_shape names) [] w words)
+rows_of_rest-is : (names : List (List ℕ)) (words : List Text) (w : Walk)
+    → rows_of_rest names w words ≡ unless (walk_fault (built_shape names) [] w words)
     (unless (last_fault names (fold (walked (built_rules names) []) w words).held) (Some (finished (built_rules names) (fold (walked (built_rules names) []) w words).held)))
 unfolding walk_fault
-taken_is names [] w = refl
-taken_is names (word ∷ words) w = ap (unless _) (taken_is names words (walked (built_rules names) [] w word)) ∙ sym (unless_first _ (walk_fault (built_shape names) [] (walked (built_rules names) [] w word) words) _)
+rows_of_rest-is names [] w = refl
+rows_of_rest-is names (word ∷ words) w = ap (unless _) (rows_of_rest-is names words (walked (built_rules names) [] w word)) ∙ sym (unless_first _ (walk_fault (built_shape names) [] (walked (built_rules names) [] w word) words) _)
 
 -- no subcommand is entered
 abbrev app : App
@@ -46,4 +46,4 @@ clap_answers first words two =
     ap₂ (λ h b. unless (last_by words h b) (Some (matches_of (command_line option_names) (first ∷ words))))
     (ap (λ (o : Option (Text × List Row)). is_some o) (none_entered (stop_after (built_rules option_names) [] words))) (no_fault_below (stop_after (built_rules option_names) [] words))
     ∙ unless_first (walk_fault (built_shape option_names) [] (walk_from nothing_held) words) _ _
-    ∙ sym (taken_is option_names words (behind [] None false)) ∙ takes_joined option_names refl words two
+    ∙ sym (rows_of_rest-is option_names words (walk_after [] None false)) ∙ takes_joined option_names refl words two

@@ -61,7 +61,7 @@ value_no_dash word value = go (has_one_dash word) refl
 
 -- ---- three facts of words: whether one has one dash, what they give, and that where each name has its value
 
-record Tells (some : Bool) (given : Arguments) (all_given : Option Arguments) : Type 0 where
+record HyphenFacts (some : Bool) (given : Arguments) (all_given : Option Arguments) : Type 0 where
   -- a word with one dash is to be the command
   one : some ≡ true → has_hyphen given ≡ true
   -- where no word that begins with `-` is to be the command, each name has its value
@@ -69,12 +69,12 @@ record Tells (some : Bool) (given : Arguments) (all_given : Option Arguments) : 
   -- and then these are what is given
   same : IfSome all_given (λ all. all ≡ given)
 
-abbrev Told : List (List ℕ) → Type 0
-Told words = Tells (list_any has_one_dash words) (arguments_of words) (whole words)
+abbrev HyphenFactsOf : List (List ℕ) → Type 0
+HyphenFactsOf words = HyphenFacts (list_any has_one_dash words) (arguments_of words) (whole words)
 
-as_told : (word : List ℕ) (words : List (List ℕ)) (given : Arguments) (all_given : Option Arguments) → arguments_of (word ∷ words) ≡ given → whole (word ∷ words) ≡ all_given
-    → Tells (list_any has_one_dash (word ∷ words)) given all_given → Told (word ∷ words)
-as_told word words given all_given e w told = subst (λ g. Tells (list_any has_one_dash (word ∷ words)) g (whole (word ∷ words))) (sym e) (subst (λ o. Tells (list_any has_one_dash (word ∷ words)) given o) (sym w) told)
+facts_by_forms : (word : List ℕ) (words : List (List ℕ)) (given : Arguments) (all_given : Option Arguments) → arguments_of (word ∷ words) ≡ given → whole (word ∷ words) ≡ all_given
+    → HyphenFacts (list_any has_one_dash (word ∷ words)) given all_given → HyphenFactsOf (word ∷ words)
+facts_by_forms word words given all_given e w facts = subst (λ g. HyphenFacts (list_any has_one_dash (word ∷ words)) g (whole (word ∷ words))) (sym e) (subst (λ o. HyphenFacts (list_any has_one_dash (word ∷ words)) given o) (sym w) facts)
 
 -- one argument more
 one_more : (x : PlainArgument) (given : Arguments) (o : Option Arguments) → IfSome o (λ all. all ≡ given) → IfSome (option_map (λ more. x ∷ more) o) (λ all. all ≡ x ∷ given)
@@ -82,85 +82,85 @@ one_more x given None e = tt
 one_more x given (Some all) e = ap (λ more. x ∷ more) e
 
 -- an option with its value comes before the rest
-with_setting : (word name value : List ℕ) (some : Bool) (given : Arguments) (all_given : Option Arguments) → has_one_dash word ≡ false → Tells some given all_given
-    → Tells (has_one_dash word || some) (Setting name value ∷ given) (option_map (λ more. Setting name value ∷ more) all_given)
-with_setting word name value some given all_given no_dash told = record {
-  one = λ e. told.one (rw no_dash at e);
-  each = λ e. ap (option_map (λ more. Setting name value ∷ more)) (told.each e);
-  same = one_more (Setting name value) given all_given told.same;
+with_setting : (word name value : List ℕ) (some : Bool) (given : Arguments) (all_given : Option Arguments) → has_one_dash word ≡ false → HyphenFacts some given all_given
+    → HyphenFacts (has_one_dash word || some) (Setting name value ∷ given) (option_map (λ more. Setting name value ∷ more) all_given)
+with_setting word name value some given all_given no_dash facts = record {
+  one = λ e. facts.one (rw no_dash at e);
+  each = λ e. ap (option_map (λ more. Setting name value ∷ more)) (facts.each e);
+  same = one_more (Setting name value) given all_given facts.same;
 }
 
 -- a word that is to be the command, and begins with `-` or not
-with_word : (word : List ℕ) (some : Bool) (given : Arguments) (all_given : Option Arguments) → (is_value word ≡ true) ⊎ (is_value word ≡ false) → Tells some given all_given
-    → Tells (has_one_dash word || some) (CommandWord word ∷ given) (option_map (λ more. CommandWord word ∷ more) all_given)
-with_word word some given all_given (inl value) told = record {
-  one = λ e. rw value (told.one (rw (value_no_dash word value) at e));
-  each = λ e. ap (option_map (λ more. CommandWord word ∷ more)) (told.each (rw value at e));
-  same = one_more (CommandWord word) given all_given told.same;
+with_word : (word : List ℕ) (some : Bool) (given : Arguments) (all_given : Option Arguments) → (is_value word ≡ true) ⊎ (is_value word ≡ false) → HyphenFacts some given all_given
+    → HyphenFacts (has_one_dash word || some) (CommandWord word ∷ given) (option_map (λ more. CommandWord word ∷ more) all_given)
+with_word word some given all_given (inl value) facts = record {
+  one = λ e. rw value (facts.one (rw (value_no_dash word value) at e));
+  each = λ e. ap (option_map (λ more. CommandWord word ∷ more)) (facts.each (rw value at e));
+  same = one_more (CommandWord word) given all_given facts.same;
 }
-with_word word some given all_given (inr hyphen) told = record {
+with_word word some given all_given (inr hyphen) facts = record {
   one = λ e. rw hyphen refl;
   each = λ e. absurd (let wrong : true ≡ false = rw hyphen at e in cc);
-  same = one_more (CommandWord word) given all_given told.same;
+  same = one_more (CommandWord word) given all_given facts.same;
 }
 
 -- a name without its value
-without_value : (word : List ℕ) (some : Bool) (given : Arguments) → is_value word ≡ false → Tells some (CommandWord word ∷ given) None
+without_value : (word : List ℕ) (some : Bool) (given : Arguments) → is_value word ≡ false → HyphenFacts some (CommandWord word ∷ given) None
 without_value word some given hyphen = record {
   one = λ e. rw hyphen refl;
   each = λ e. absurd (let wrong : true ≡ false = rw hyphen at e in cc);
   same = tt;
 }
 
-name_told : (word name : List ℕ) (words : List (List ℕ)) → is_value word ≡ false → has_one_dash word ≡ false → form_of word ≡ NameAlone name → Told (drop 1 words) → Told (word ∷ words)
-name_told word name [] hyphen no_dash form later =
-    as_told word [] (CommandWord word ∷ []) None (ap (last_argument word) form) (whole_last_name word name form) (without_value word _ [] hyphen)
-name_told word name (next ∷ words) hyphen no_dash form later =
-    as_told word (next ∷ words) _ _ (arguments_named word name next words form) (whole_named word name next words form) (go (is_value next) refl)
+facts_of_name : (word name : List ℕ) (words : List (List ℕ)) → is_value word ≡ false → has_one_dash word ≡ false → form_of word ≡ NameAlone name → HyphenFactsOf (drop 1 words) → HyphenFactsOf (word ∷ words)
+facts_of_name word name [] hyphen no_dash form later =
+    facts_by_forms word [] (CommandWord word ∷ []) None (ap (last_argument word) form) (whole_last_name word name form) (without_value word _ [] hyphen)
+facts_of_name word name (next ∷ words) hyphen no_dash form later =
+    facts_by_forms word (next ∷ words) _ _ (arguments_named word name next words form) (whole_named word name next words form) (go (is_value next) refl)
   where
     go : (b : Bool) → is_value next ≡ b
-        → Tells (list_any has_one_dash (word ∷ next ∷ words)) (named_argument name word b next (arguments_of (next ∷ words)) (arguments_of words)) (cond b (option_map (λ more. Setting name next ∷ more) (whole words)) None)
+        → HyphenFacts (list_any has_one_dash (word ∷ next ∷ words)) (named_argument name word b next (arguments_of (next ∷ words)) (arguments_of words)) (cond b (option_map (λ more. Setting name next ∷ more) (whole words)) None)
     go true e = with_setting word name next (list_any has_one_dash (next ∷ words)) (arguments_of words) (whole words) no_dash (rw (value_no_dash next e) later)
     go false e = without_value word _ (arguments_of (next ∷ words)) hyphen
 
-word_told : (word : List ℕ) (words : List (List ℕ)) → Told words → Told (drop 1 words) → Told (word ∷ words)
-word_told word words rest later = go (spelling word)
+facts_of_word : (word : List ℕ) (words : List (List ℕ)) → HyphenFactsOf words → HyphenFactsOf (drop 1 words) → HyphenFactsOf (word ∷ words)
+facts_of_word word words rest later = go (spelling word)
   where
-    long : (name : List ℕ) (value : Option (List ℕ)) → is_value word ≡ false → has_one_dash word ≡ false → form_of word ≡ form_cut (name, value) → Told (word ∷ words)
-    long name None hyphen no_dash form = name_told word name words hyphen no_dash form later
+    long : (name : List ℕ) (value : Option (List ℕ)) → is_value word ≡ false → has_one_dash word ≡ false → form_of word ≡ form_cut (name, value) → HyphenFactsOf (word ∷ words)
+    long name None hyphen no_dash form = facts_of_name word name words hyphen no_dash form later
     long name (Some value) hyphen no_dash form =
-        as_told word words _ _ (arguments_attached word name value words form) (whole_attached word name value words form)
+        facts_by_forms word words _ _ (arguments_attached word name value words form) (whole_attached word name value words form)
         (with_setting word name value (list_any has_one_dash words) (arguments_of words) (whole words) no_dash rest)
 
-    go : Spelling word → Told (word ∷ words)
-    go (dashes is) = as_told word words _ _ (arguments_dashes word words (ap form_of is)) (whole_dashes word words (ap form_of is)) (record {
+    go : Spelling word → HyphenFactsOf (word ∷ words)
+    go (dashes is) = facts_by_forms word words _ _ (arguments_dashes word words (ap form_of is)) (whole_dashes word words (ap form_of is)) (record {
       one = λ e. ap (list_any begins_with_hyphen) (words_again words) ∙ one_dash_begins words (rw (ap has_one_dash is) at e);
       each = λ e. refl;
       same = refl;
     })
     go (named c text is) = long (name_and_value (c ∷ text)).0 (name_and_value (c ∷ text)).1 (ap is_value is) (ap has_one_dash is) (ap form_of is ∙ cut-is (c ∷ text))
     go (plain value) =
-        as_told word words _ _ (arguments_other word words (plain-is word value).other) (whole_other word words (plain-is word value).other)
+        facts_by_forms word words _ _ (arguments_other word words (plain-is word value).other) (whole_other word words (plain-is word value).other)
         (with_word word (list_any has_one_dash words) (arguments_of words) (whole words) (inl value) rest)
     go (one_dash one) =
-        as_told word words _ _ (arguments_other word words (one_dash-is word one).1) (whole_other word words (one_dash-is word one).1)
+        facts_by_forms word words _ _ (arguments_other word words (one_dash-is word one).1) (whole_other word words (one_dash-is word one).1)
         (with_word word (list_any has_one_dash words) (arguments_of words) (whole words) (inr (one_dash-is word one).0) rest)
 
-both_told : (words : List (List ℕ)) → Told words × Told (drop 1 words)
-both_told [] = (nothing, nothing)
+facts_of_both : (words : List (List ℕ)) → HyphenFactsOf words × HyphenFactsOf (drop 1 words)
+facts_of_both [] = (nothing, nothing)
   where
-    nothing : Told []
+    nothing : HyphenFactsOf []
     nothing = record { one = λ e. e; each = λ e. refl; same = refl }
-both_told (word ∷ words) = (word_told word words (both_told words).0 (both_told words).1, (both_told words).0)
+facts_of_both (word ∷ words) = (facts_of_word word words (facts_of_both words).0 (facts_of_both words).1, (facts_of_both words).0)
 
 -- a word with one dash is to be the command
 pub one_dash-hyphen : (words : List (List ℕ)) → list_any has_one_dash words ≡ true → has_hyphen (arguments_of words) ≡ true
-one_dash-hyphen words = (both_told words).0.one
+one_dash-hyphen words = (facts_of_both words).0.one
 
 -- where no word that begins with `-` is to be the command, each name has its value
 pub no_hyphen-whole : (words : List (List ℕ)) → has_hyphen (arguments_of words) ≡ false → whole words ≡ Some (arguments_of words)
-no_hyphen-whole words = (both_told words).0.each
+no_hyphen-whole words = (facts_of_both words).0.each
 
 -- where each name has its value, these are what the words give
 pub whole-given : (words : List (List ℕ)) → IfSome (whole words) (λ all. all ≡ arguments_of words)
-whole-given words = (both_told words).0.same
+whole-given words = (facts_of_both words).0.same

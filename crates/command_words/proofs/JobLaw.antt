@@ -11,11 +11,11 @@ use Rattle.command_words.specs.Arguments.{CommandWord, Setting, arguments_of, co
 use Rattle.command_words.specs.Jobs.{OptionsFor, job_asked, job_of, only_word, options_of}
 use Rattle.command_words.specs.Inner.ClapCommand.{clap_rows, has_one_dash, option_names}
 use Rattle.command_words.specs.Inner.MatchedJobs.{asked_by, has_only, matched_job}
-use Rattle.command_words.proofs.KnownRules.{itself, known, same_name}
+use Rattle.command_words.proofs.RulesByName.{itself, has_name, same_name}
 use Rattle.command_words.proofs.JoinedArguments.{Arguments, fits, joined, rows_for}
 use Rattle.command_words.proofs.ClapTakes.{rows_with}
 use Rattle.command_words.proofs.ClapLaw.{clap_answers}
-use Rattle.command_words.proofs.FittingArguments.{command_once, option_once, options_known}
+use Rattle.command_words.proofs.FittingArguments.{command_once, option_once, options_declared}
 use Rattle.command_words.proofs.JobOptions.{Keeps, IsLawful, asks, asks_fits, not_given, options_lawful}
 use Rattle.command_words.proofs.HyphenWords.{begins_with_hyphen, has_hyphen, no_hyphen-whole, one_dash-hyphen, whole-given}
 use Rattle.command_words.proofs.WholeArguments.{whole}
@@ -50,34 +50,34 @@ one_dash_no_job words some = hyphen_no_job words (one_dash-hyphen words some)
 -- ---- the job of the matches
 
 -- each option that is given is one of these
-all_each : (test : Text → Bool) (names : List Text) → ((name : Text) → known names name ≡ true → test name ≡ true) → list_all test names ≡ true
+all_each : (test : Text → Bool) (names : List Text) → ((name : Text) → has_name names name ≡ true → test name ≡ true) → list_all test names ≡ true
 all_each test [] each = refl
 all_each test (n ∷ names) each =
-    ap₂ (λ a b. a && b) (each n (ap (λ b. b || known names n) (itself n))) (all_each test names (λ name here. each name (go (pointwise nat_eq name n) here)))
+    ap₂ (λ a b. a && b) (each n (ap (λ b. b || has_name names n) (itself n))) (all_each test names (λ name here. each name (go (pointwise nat_eq name n) here)))
   where
     go : (b : Bool) {c : Bool} → c ≡ true → (b || c) ≡ true
     go true e = refl
     go false e = e
 
-all_at : (test : Text → Bool) (names : List Text) (name : Text) → list_all test names ≡ true → known names name ≡ true → test name ≡ true
+all_at : (test : Text → Bool) (names : List Text) (name : Text) → list_all test names ≡ true → has_name names name ≡ true → test name ≡ true
 all_at test [] name all here = absurd (let wrong : false ≡ true = here in cc)
 all_at test (n ∷ names) name all here = go (pointwise nat_eq name n) refl (all_at test names name (and_parts (test n) (list_all test names) all).1)
   where
-    go : (b : Bool) → pointwise nat_eq name n ≡ b → (known names name ≡ true → test name ≡ true) → test name ≡ true
+    go : (b : Bool) → pointwise nat_eq name n ≡ b → (has_name names name ≡ true → test name ≡ true) → test name ≡ true
     go true e rest = ap test (same_name name n e) ∙ (and_parts (test n) (list_all test names) all).0
     go false e rest = rest (rw e at here)
 
 only_these : (options : List Text) (given : Arguments) → has_only_options option_names given ≡ true
-    → ((name : Text) → known option_names name ≡ true → (values_of name given ≡ [] → ⊥) → known options name ≡ true) → has_only_options options given ≡ true
+    → ((name : Text) → has_name option_names name ≡ true → (values_of name given ≡ [] → ⊥) → has_name options name ≡ true) → has_only_options options given ≡ true
 only_these options [] all each = refl
 only_these options (CommandWord word ∷ given) all each = only_these options given all each
 only_these options (Setting name value ∷ given) all each =
     ap₂ (λ a b. a && b)
     (each name here (λ none. let wrong : value ∷ values_of name given ≡ [] = rw (itself name) at none in cc))
-    (only_these options given (and_parts (known option_names name) (has_only_options option_names given) all).1 (λ other there some. each other there (λ none. some (fewer other (bytes_eq name other) refl none))))
+    (only_these options given (and_parts (has_name option_names name) (has_only_options option_names given) all).1 (λ other there some. each other there (λ none. some (fewer other (bytes_eq name other) refl none))))
   where
-    here : known option_names name ≡ true
-    here = (and_parts (known option_names name) (has_only_options option_names given) all).0
+    here : has_name option_names name ≡ true
+    here = (and_parts (has_name option_names name) (has_only_options option_names given) all).0
 
     fewer : (other : Text) (b : Bool) → bytes_eq name other ≡ b → values_of other (Setting name value ∷ given) ≡ [] → values_of other given ≡ []
     fewer other true e none = absurd (let wrong : value ∷ values_of other given ≡ [] = rw e at none in cc)
@@ -87,9 +87,9 @@ only_is : (options : List Text) (given : Arguments) → fits option_names [] giv
 only_is options given fit = go (has_only_options options given) (has_only options (rows_for given)) refl refl
   where
     passing : Text → Bool
-    passing name = not (is_some (first_of name (rows_for given))) || known options name
+    passing name = not (is_some (first_of name (rows_for given))) || has_name options name
 
-    values : (name : Text) → known option_names name ≡ true → values_of name given ≡ option_to_list (first_of name (rows_for given))
+    values : (name : Text) → has_name option_names name ≡ true → values_of name given ≡ option_to_list (first_of name (rows_for given))
     values name here = option_once option_names name refl here [] given fit
 
     test : (o : Option Text) (b : Bool) → (not (is_some o) || b) ≡ true → (option_to_list o ≡ [] → ⊥) → b ≡ true
@@ -104,9 +104,9 @@ only_is options given fit = go (has_only_options options given) (has_only option
     go : (a b : Bool) → has_only_options options given ≡ a → has_only options (rows_for given) ≡ b → a ≡ b
     go true true d e = refl
     go false false d e = refl
-    go true false d e = sym (all_each passing option_names (λ name here. passes (first_of name (rows_for given)) (known options name) (λ none. sym (values name here) ∙ not_given options name given d none))) ∙ e
-    go false true d e = sym d ∙ only_these options given (options_known option_names [] given fit)
-        (λ name here some. test (first_of name (rows_for given)) (known options name) (all_at passing option_names name e here) (λ none. some (values name here ∙ none)))
+    go true false d e = sym (all_each passing option_names (λ name here. passes (first_of name (rows_for given)) (has_name options name) (λ none. sym (values name here) ∙ not_given options name given d none))) ∙ e
+    go false true d e = sym d ∙ only_these options given (options_declared option_names [] given fit)
+        (λ name here some. test (first_of name (rows_for given)) (has_name options name) (all_at passing option_names name e here) (λ none. some (values name here ∙ none)))
 
 -- the job of the arguments, by the rows of those that join
 asked_is : (given : Arguments) → fits option_names [] given ≡ true → (o : Option (OptionsFor Job)) → IfSome o (λ options. IsLawful options Keeps) → job_asked given o ≡ asked_by o (rows_for given)

@@ -14,11 +14,11 @@ use Rattle.command_words.specs.declared.run_options.TheConstants.{ROOM_MAX, ROOM
 use Rattle.command_words.specs.declared.trial_options.TheConstants.{VERTICES_MADE_MAX}
 use Rattle.command_words.specs.Arguments.{CommandWord, Setting, arguments_of, command_words, has_only_options, values_of}
 use Rattle.command_words.specs.ArgumentValues.{besides, needed, starting_values}
-use Rattle.command_words.specs.Jobs.{OptionsFor, Values, no_options, function_value, ◌⊛◌, commands, job_asked, job_of, number_option, only_word, options_of, usual_option}
+use Rattle.command_words.specs.Jobs.{OptionsFor, Values, no_options, ◌⊛◌, commands, job_asked, job_of, number_option, only_word, options_of, usual_option}
 use Rattle.command_words.specs.KeptLimits.{KeepsLimits}
 use Rattle.command_words.specs.Readings.{reading_of}
 use Rattle.command_words.specs.Inner.ClapCommand.{option_names}
-use Rattle.command_words.proofs.KnownRules.{known, same_name}
+use Rattle.command_words.proofs.RulesByName.{has_name, same_name}
 use Rattle.command_words.proofs.JoinedArguments.{Arguments, fits}
 use Rattle.command_words.proofs.FittingArguments.{fit-fits}
 use Rattle.command_words.proofs.NumbersGiven.{IsFrom, besides_lies, needed_lies}
@@ -27,9 +27,9 @@ use Rattle.command_words.proofs.NumbersGiven.{IsFrom, besides_lies, needed_lies}
 
 -- each name among these is among those
 abbrev Among : List Text → List Text → Type 0
-Among options names = (name : Text) → known options name ≡ true → known names name ≡ true
+Among options names = (name : Text) → has_name options name ≡ true → has_name names name ≡ true
 
-alone : (other name : Text) → known (other ∷ []) name ≡ true → name ≡ other
+alone : (other name : Text) → has_name (other ∷ []) name ≡ true → name ≡ other
 alone other name here = go (pointwise nat_eq name other) refl here
   where
     go : (b : Bool) → pointwise nat_eq name other ≡ b → (b || false) ≡ true → name ≡ other
@@ -40,18 +40,18 @@ wider : (names options : List Text) (given : Arguments) → Among options names 
 wider names options [] among only = refl
 wider names options (CommandWord word ∷ given) among only = wider names options given among only
 wider names options (Setting name value ∷ given) among only =
-    ap₂ (λ a b. a && b) (among name (and_parts (known options name) (has_only_options options given) only).0)
-    (wider names options given among (and_parts (known options name) (has_only_options options given) only).1)
+    ap₂ (λ a b. a && b) (among name (and_parts (has_name options name) (has_only_options options given) only).0)
+    (wider names options given among (and_parts (has_name options name) (has_only_options options given) only).1)
 
-pub not_given : (options : List Text) (name : Text) (given : Arguments) → has_only_options options given ≡ true → known options name ≡ false → values_of name given ≡ []
+pub not_given : (options : List Text) (name : Text) (given : Arguments) → has_only_options options given ≡ true → has_name options name ≡ false → values_of name given ≡ []
 not_given options name [] only none = refl
 not_given options name (CommandWord word ∷ given) only none = not_given options name given only none
 not_given options name (Setting other value ∷ given) only none =
-    go (bytes_eq other name) refl (not_given options name given (and_parts (known options other) (has_only_options options given) only).1 none)
+    go (bytes_eq other name) refl (not_given options name given (and_parts (has_name options other) (has_only_options options given) only).1 none)
   where
     go : (b : Bool) → bytes_eq other name ≡ b → values_of name given ≡ [] → values_of name (Setting other value ∷ given) ≡ []
     go false e rest = rw e rest
-    go true e rest = absurd (let wrong : true ≡ false = sym (and_parts (known options other) (has_only_options options given) only).0 ∙ ap (known options) (same_name other name e) ∙ none in cc)
+    go true e rest = absurd (let wrong : true ≡ false = sym (and_parts (has_name options other) (has_only_options options given) only).0 ∙ ap (has_name options) (same_name other name e) ∙ none in cc)
 
 -- ---- what is so of options
 
@@ -60,12 +60,12 @@ Once values = length values ≤ 1
 
 -- the same values are given to each option that there is
 abbrev pub SameValues : Values → Values → Type 0
-SameValues v w = (name : Text) → known option_names name ≡ true → v name ≡ w name
+SameValues v w = (name : Text) → has_name option_names name ≡ true → v name ≡ w name
 
 -- There are such options; each is given once where they give something; what they give is seen of their values; and it is such.
 pub record IsLawful {A : Type 0} (options : OptionsFor A) (IsSuch : A → Type 0) : Type 0 where
-  pub are_known : Among options.names option_names
-  pub once : (values : Values) (a : A) → options.gives values ≡ Some a → (name : Text) → known options.names name ≡ true → Once (values name)
+  pub are_declared : Among options.names option_names
+  pub once : (values : Values) (a : A) → options.gives values ≡ Some a → (name : Text) → has_name options.names name ≡ true → Once (values name)
   pub same : (v w : Values) → SameValues v w → options.gives v ≡ options.gives w
   pub such : (values : Values) → IfSome (options.gives values) IsSuch
 
@@ -83,23 +83,23 @@ once_besides usual read [] a e = omega arith
 once_besides usual read (v ∷ []) a e = omega arith
 once_besides usual read (v ∷ w ∷ values) a e = absurd (let wrong : None ≡ Some a = e in cc)
 
-lawful_number : (option : Text) (lowest highest : ℕ) → known option_names option ≡ true → LawfulOptions ℕ (IsFrom lowest highest)
+lawful_number : (option : Text) (lowest highest : ℕ) → has_name option_names option ≡ true → LawfulOptions ℕ (IsFrom lowest highest)
 lawful_number option lowest highest there = (
   number_option option lowest highest,
   record {
-    are_known = λ name here. subst (λ n. known option_names n ≡ true) (sym (alone option name here)) there;
+    are_declared = λ name here. subst (λ n. has_name option_names n ≡ true) (sym (alone option name here)) there;
     once = λ values n e name here. subst (λ n. Once (values n)) (sym (alone option name here)) (once_needed _ (values option) n e);
     same = λ v w e. ap (needed _) (e option there);
     such = λ values. needed_lies lowest highest (values option);
   },
 )
 
-lawful_usual : {A : Type 0} (option : Text) (usual : A) (read : Text → Option A) (IsSuch : A → Type 0) → known option_names option ≡ true
+lawful_usual : {A : Type 0} (option : Text) (usual : A) (read : Text → Option A) (IsSuch : A → Type 0) → has_name option_names option ≡ true
     → ((values : List Text) → IfSome (besides usual read values) IsSuch) → LawfulOptions A IsSuch
 lawful_usual option usual read IsSuch there such = (
   usual_option option usual read,
   record {
-    are_known = λ name here. subst (λ n. known option_names n ≡ true) (sym (alone option name here)) there;
+    are_declared = λ name here. subst (λ n. has_name option_names n ≡ true) (sym (alone option name here)) there;
     once = λ values a e name here. subst (λ n. Once (values n)) (sym (alone option name here)) (once_besides usual read (values option) a e);
     same = λ v w e. ap (besides usual read) (e option there);
     such = λ values. such (values option);
@@ -111,7 +111,7 @@ lawful_without : {A : Type 0} (IsSuch : A → Type 0) (a : A) → IsSuch a → L
 lawful_without IsSuch a such = (
   no_options a,
   record {
-    are_known = λ name here. absurd (cc here);
+    are_declared = λ name here. absurd (cc here);
     once = λ values b e name here. absurd (cc here);
     same = λ v w e. refl;
     such = λ values. such;
@@ -121,6 +121,10 @@ lawful_without IsSuch a such = (
 -- a value is there
 abbrev IsThere : {A : Type 0} → Option A → Type 0
 IsThere {A} o = (a : A) × (o ≡ Some a)
+
+-- the value of a function, where both are there
+abbrev function_value : {A B : Type 0} → Option (A → B) → Option A → Option B
+function_value f a = option_and_then (λ g. option_map g a) f
 
 both_there : {A B : Type 0} (f : Option (A → B)) (a : Option A) (b : B) → function_value f a ≡ Some b → IsThere f × IsThere a
 both_there (Some f) (Some a) b e = ((f, refl), (a, refl))
@@ -134,26 +138,26 @@ both_such IsSuch IsPart None a whole part = tt
 both_such IsSuch IsPart (Some g) None whole part = tt
 
 -- one option after others
-behind : {A B : Type 0} {IsPart : A → Type 0} {IsSuch : B → Type 0} → LawfulOptions A IsPart → LawfulOptions (A → B) (λ g. (x : A) → IsPart x → IsSuch (g x)) → LawfulOptions B IsSuch
-behind {A} {B} {IsPart} {IsSuch} (a, second) (f, first) = (
+option_after : {A B : Type 0} {IsPart : A → Type 0} {IsSuch : B → Type 0} → LawfulOptions A IsPart → LawfulOptions (A → B) (λ g. (x : A) → IsPart x → IsSuch (g x)) → LawfulOptions B IsSuch
+option_after {A} {B} {IsPart} {IsSuch} (a, second) (f, first) = (
   f ⊛ a,
   record {
-    are_known = λ name here. known_in name (by_part name here);
+    are_declared = λ name here. in_option_names name (by_part name here);
     once = λ values b e name here. once values (both_there (f.gives values) (a.gives values) b e) name (by_part name here);
     same = λ v w e. ap₂ function_value (first.same v w e) (second.same v w e);
     such = λ values. both_such IsSuch IsPart (f.gives values) (a.gives values) (first.such values) (second.such values);
   },
 )
   where
-    by_part : (name : Text) → known (f.names ++ a.names) name ≡ true → (known f.names name ≡ true) ⊎ (known a.names name ≡ true)
+    by_part : (name : Text) → has_name (f.names ++ a.names) name ≡ true → (has_name f.names name ≡ true) ⊎ (has_name a.names name ≡ true)
     by_part name here = or_cases _ _ (sym (list_any-append (λ n. pointwise nat_eq name n) f.names a.names) ∙ here)
 
-    known_in : (name : Text) → (known f.names name ≡ true) ⊎ (known a.names name ≡ true) → known option_names name ≡ true
-    known_in name (inl here) = first.are_known name here
-    known_in name (inr here) = second.are_known name here
+    in_option_names : (name : Text) → (has_name f.names name ≡ true) ⊎ (has_name a.names name ≡ true) → has_name option_names name ≡ true
+    in_option_names name (inl here) = first.are_declared name here
+    in_option_names name (inr here) = second.are_declared name here
 
     once : (values : Values) → IsThere (f.gives values) × IsThere (a.gives values) → (name : Text)
-        → (known f.names name ≡ true) ⊎ (known a.names name ≡ true) → Once (values name)
+        → (has_name f.names name ≡ true) ⊎ (has_name a.names name ≡ true) → Once (values name)
     once values there name (inl here) = first.once values there.0.0 there.0.1 name here
     once values there name (inr here) = second.once values there.1.0 there.1.1 name here
 
@@ -193,22 +197,22 @@ unfolding lawful_without
 bare job keeps = (lawful_without Keeps job keeps).1
 
 abbrev run : LawfulOptions Job Keeps
-run = behind room (behind start (behind events (behind seed (behind until (lawful_without _ jobs.Run (λ _ soon _ _ _ few _ _ _ _. (soon.1, few.1)))))))
+run = option_after room (option_after start (option_after events (option_after seed (option_after until (lawful_without _ jobs.Run (λ _ soon _ _ _ within_budget _ _ _ _. (soon.1, within_budget.1)))))))
 
 abbrev replicate : LawfulOptions Job Keeps
-replicate = behind start (behind runs (behind events (behind seed (behind until (lawful_without _ jobs.Replicate (λ _ soon _ _ _ few _ many _ _. (soon.1, few.1, many.0, many.1)))))))
+replicate = option_after start (option_after runs (option_after events (option_after seed (option_after until (lawful_without _ jobs.Replicate (λ _ soon _ _ _ within_budget _ many _ _. (soon.1, within_budget.1, many.0, many.1)))))))
 
 abbrev save : LawfulOptions Job Keeps
-save = behind start (behind events (behind seed (behind until (lawful_without _ jobs.Save (λ _ soon seed wide _ few _ _. (soon.1, omega (arith, wide.1), few.1))))))
+save = option_after start (option_after events (option_after seed (option_after until (lawful_without _ jobs.Save (λ _ soon seed wide _ within_budget _ _. (soon.1, omega (arith, wide.1), within_budget.1))))))
 
 abbrev resume : LawfulOptions Job Keeps
-resume = behind room (behind events (behind until (lawful_without _ jobs.Resume (λ _ soon _ few _ roomy. (soon.1, few.1, roomy.1)))))
+resume = option_after room (option_after events (option_after until (lawful_without _ jobs.Resume (λ _ soon _ within_budget _ roomy. (soon.1, within_budget.1, roomy.1)))))
 
 abbrev trial : LawfulOptions Job Keeps
-trial = behind events (behind until (behind vertices (behind seed (lawful_without _ jobs.Trial (λ _ _ _ made _ soon _ few. (made.0, made.1, soon.1, few.1))))))
+trial = option_after events (option_after until (option_after vertices (option_after seed (lawful_without _ jobs.Trial (λ _ _ _ made _ soon _ within_budget. (made.0, made.1, soon.1, within_budget.1))))))
 
 commands_lawful : AllByRecursion (λ command. IsLawful command.1 Keeps) commands
-unfolding behind lawful_without lawful_number lawful_usual
+unfolding option_after lawful_without lawful_number lawful_usual
 commands_lawful = (
   bare jobs.Check tt,
   (
@@ -257,9 +261,9 @@ options_lawful word = named_lawful word commands commands_lawful
 -- no option is given twice
 given_once : (options : OptionsFor Job) (given : Arguments) (job : Job) (name : Text) → IsLawful options Keeps → has_only_options options.names given ≡ true
     → options.gives (λ name. values_of name given) ≡ Some job → Once (values_of name given)
-given_once options given job name lawful only e = go (known options.names name) refl
+given_once options given job name lawful only e = go (has_name options.names name) refl
   where
-    go : (b : Bool) → known options.names name ≡ b → Once (values_of name given)
+    go : (b : Bool) → has_name options.names name ≡ b → Once (values_of name given)
     go true here = lawful.once (λ name. values_of name given) job e name here
     go false none = subst Once (sym (not_given options.names name given only none)) (omega arith)
 
@@ -295,7 +299,7 @@ lawful_asked given job asked = subst (λ o. IfSome o (λ options. IsLawful optio
 
 pub asks_fits : (given : Arguments) (job : Job) → Asks given job → fits option_names [] given ≡ true
 asks_fits given job asked = fit-fits option_names refl given [] (record {
-  known_options = wider option_names asked.options.names given lawful.are_known asked.only;
+  declared_options = wider option_names asked.options.names given lawful.are_declared asked.only;
   once = λ name here. given_once asked.options given job name lawful asked.only asked.asked;
   new = λ name here wrong. absurd (cc wrong);
   no_other = λ wrong. absurd (cc wrong);

@@ -1,4 +1,4 @@
--- What words give, joined one by one: each option is known and comes once, and one word is to be the command.
+-- What words give, joined one by one: each option is declared and comes once, and one word is to be the command.
 use Rattle.std.proofs.Common.{◌≡◌, ◌∙◌, ◌&&◌, ◌||◌, ℕ, Bool, true, false, cond, not, bytes_eq, refl, ap, List, [], ◌∷◌, ◌++◌, Option, Some, None, map, codes}
 use Rattle.std.proofs.lemmas.List.{map-append}
 use Rattle.std.proofs.lemmas.List.Folds.{list_any-append}
@@ -7,7 +7,7 @@ use Rattle.std.proofs.Math.Bool.{or-false}
 use Rattle.clap.specs.Walk.{Row, at_row, has_row, reading_by}
 use Rattle.clap.specs.declared.parser.matches.ValueSource.TheVariants.{CommandLine}
 use Rattle.command_words.specs.Arguments.{PlainArgument, CommandWord, Setting}
-use Rattle.command_words.proofs.KnownRules.{built_word, known}
+use Rattle.command_words.proofs.RulesByName.{built_word, has_name}
 
 abbrev pub Arguments : Type 0
 Arguments = List PlainArgument
@@ -28,10 +28,10 @@ row_for x = record { id = id_of x; values = text_of x ∷ []; count = None; sour
 abbrev pub rows_for : Arguments → List Row
 rows_for given = map row_for given
 
--- the option is known
-abbrev pub is_known : List (List ℕ) → PlainArgument → Bool
-is_known names (CommandWord word) = true
-is_known names (Setting name value) = known names name
+-- the argument is a word, or an option of one of these names
+abbrev pub is_declared : List (List ℕ) → PlainArgument → Bool
+is_declared names (CommandWord word) = true
+is_declared names (Setting name value) = has_name names name
 
 -- it is given already
 abbrev pub is_given : Arguments → PlainArgument → Bool
@@ -42,7 +42,7 @@ has_command given = has_row (codes "command") (rows_for given)
 
 -- it may join those that are given
 abbrev pub may_join : List (List ℕ) → Arguments → PlainArgument → Bool
-may_join names given x = is_known names x && not (is_given given x)
+may_join names given x = is_declared names x && not (is_given given x)
 
 -- more arguments may join one by one, and the command is among all
 abbrev pub fits : List (List ℕ) → Arguments → Arguments → Bool

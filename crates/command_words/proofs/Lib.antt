@@ -1,5 +1,5 @@
 pub mod Spelling
-pub mod KnownRules
+pub mod RulesByName
 pub mod JoinedArguments
 pub mod SettledArguments
 pub mod ClapTurns

@@ -8,8 +8,8 @@ use Rattle.clap.specs.declared.error.kind.ErrorKind.{ErrorKind}
 use Rattle.clap.specs.declared.error.kind.ErrorKind.TheVariants as kind
 use Rattle.clap.specs.declared.parser.matches.ValueSource.TheVariants.{CommandLine}
 use Rattle.command_words.specs.Arguments.{PlainArgument, CommandWord, Setting}
-use Rattle.command_words.proofs.KnownRules.{built_word, built_option, built_rules, known, by_id}
-use Rattle.command_words.proofs.JoinedArguments.{Arguments, id_of, text_of, row_for, rows_for, is_known, is_given, row_added, rows_more}
+use Rattle.command_words.proofs.RulesByName.{built_word, built_option, built_rules, has_name, by_id}
+use Rattle.command_words.proofs.JoinedArguments.{Arguments, id_of, text_of, row_for, rows_for, is_declared, is_given, row_added, rows_more}
 
 -- the rows of the arguments that are given, and an argument whose values come
 abbrev pub holding : List Row → Option (Text × List Text) → Held
@@ -54,17 +54,17 @@ pub data Settling (names : List (List ℕ)) (given : Arguments) (pending : Optio
   clashes : (k : ErrorKind) (ks : Kinds) → settle given pending ≡ None → settle_fault (built_rules names) false (held_for given pending) ≡ k ∷ ks → Settling names given pending
 
 -- what `clap` does to the pending argument
-settle_fault_at : (names : List (List ℕ)) → known names (codes "command") ≡ false → (rows : List Row) (x : PlainArgument) → is_known names x ≡ true
+settle_fault_at : (names : List (List ℕ)) → has_name names (codes "command") ≡ false → (rows : List Row) (x : PlainArgument) → is_declared names x ≡ true
     → settle_fault (built_rules names) false (holding rows (Some (pending_for x))) ≡ again (has_row (id_of x) rows)
 settle_fault_at names none rows (CommandWord word) here = use_is (CommandWord word) rows
 settle_fault_at names none rows (Setting name value) here = rw (by_id names name none here) (use_is (Setting name value) rows)
 
-settled_at : (names : List (List ℕ)) → known names (codes "command") ≡ false → (rows : List Row) (x : PlainArgument) → is_known names x ≡ true → has_row (id_of x) rows ≡ false
+settled_at : (names : List (List ℕ)) → has_name names (codes "command") ≡ false → (rows : List Row) (x : PlainArgument) → is_declared names x ≡ true → has_row (id_of x) rows ≡ false
     → settled (built_rules names) (holding rows (Some (pending_for x))) ≡ holding (rows ++ row_for x ∷ []) None
 settled_at names none rows (CommandWord word) here free = ap (λ rs. holding rs None) (used_is (CommandWord word) rows free)
 settled_at names none rows (Setting name value) here free = rw (by_id names name none here) (ap (λ rs. holding rs None) (used_is (Setting name value) rows free))
 
-pub settling : (names : List (List ℕ)) → known names (codes "command") ≡ false → (given : Arguments) (pending : Option PlainArgument) → IfSome pending (λ x. is_known names x ≡ true) → Settling names given pending
+pub settling : (names : List (List ℕ)) → has_name names (codes "command") ≡ false → (given : Arguments) (pending : Option PlainArgument) → IfSome pending (λ x. is_declared names x ≡ true) → Settling names given pending
 settling names none given None here = joins given refl (sym (append-nil given)) refl refl
 settling names none given (Some x) here = go (is_given given x) refl
   where

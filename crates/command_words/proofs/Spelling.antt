@@ -27,7 +27,7 @@ place_of (c ∷ text) = go (is_equals c) (place_of text)
 
     go : (b : Bool) → (list_any is_equals text ≡ nat_lt (position_or_len is_equals text) (length text)) × (list_any is_equals text ≡ false → position_or_len is_equals text ≡ length text)
         → ((b || list_any is_equals text) ≡ nat_lt (cond (not b) (1 + position_or_len is_equals text) 0) (length (c ∷ text))) × ((b || list_any is_equals text) ≡ false → cond (not b) (1 + position_or_len is_equals text) 0 ≡ length (c ∷ text))
-    go true known = (grind (arith, nat_tests), λ e. cc)
+    go true has_name = (grind (arith, nat_tests), λ e. cc)
     go false (is, none) = (is ∙ grind (arith, nat_tests), λ e. let end = none e in omega (arith, end))
 
 -- `clap` cuts at the first `=`, as the rule does

@@ -10,10 +10,10 @@ last_whole word (NameAlone name) = None
 last_whole word OtherForm = Some (CommandWord word ∷ [])
 
 abbrev pub next_whole : List ℕ → WordForm → List ℕ → List (List ℕ) → Option Arguments → Option Arguments → Option Arguments
-next_whole word TwoDashes next words from_next behind_next = Some (map (λ w. CommandWord w) (next ∷ words))
-next_whole word (NameWithValue name value) next words from_next behind_next = option_map (λ given. Setting name value ∷ given) from_next
-next_whole word (NameAlone name) next words from_next behind_next = cond (is_value next) (option_map (λ given. Setting name next ∷ given) behind_next) None
-next_whole word OtherForm next words from_next behind_next = option_map (λ given. CommandWord word ∷ given) from_next
+next_whole word TwoDashes next words from_next after_next = Some (map (λ w. CommandWord w) (next ∷ words))
+next_whole word (NameWithValue name value) next words from_next after_next = option_map (λ given. Setting name value ∷ given) from_next
+next_whole word (NameAlone name) next words from_next after_next = cond (is_value next) (option_map (λ given. Setting name next ∷ given) after_next) None
+next_whole word OtherForm next words from_next after_next = option_map (λ given. CommandWord word ∷ given) from_next
 
 -- what the words give, or `None` where a name before `--` has no value
 abbrev pub whole : List (List ℕ) → Option Arguments

@@ -1,5 +1,5 @@
 -- How the value of an option is read: numbers, and lists of starting values.
-use Rattle.std.specs.Prelude.{ℕ, ◌-◌, ◌^◌, ℤ, pos, neg_ℤ, Bool, ◌&&◌, ◌==◌, nat_eq, nat_le, nat_lt, if◌then◌else◌, List, [], ◌∷◌, length, drop, map, codes, Option, Some, None}
+use Rattle.std.specs.Prelude.{ℕ, ◌-◌, ◌^◌, ℤ, pos, neg_ℤ, Bool, ◌&&◌, ◌==◌, nat_eq, nat_le, nat_lt, if◌then◌else◌, List, [], ◌∷◌, length, drop, map, codes, Option, Some, None, option_and_then}
 use Rattle.std.specs.List.{starts_with, slice_split, list_all}
 use Rattle.std.specs.Option.{option_map}
 use Rattle.std.specs.Char.{is_ascii_digit}
@@ -24,15 +24,10 @@ whole_number text =
     if starts_with nat_eq text (codes "-") then option_map (λ n. neg_ℤ (pos n)) (number_within 0 (2 ^ 63) (drop 1 text))
     else option_map (λ n. pos n) (number_within 0 (2 ^ 63 - 1) text)
 
--- a number before others, where all are there
-abbrev pub before_numbers : Option ℤ → Option (List ℤ) → Option (List ℤ)
-before_numbers (Some n) (Some ns) = Some (n ∷ ns)
-before_numbers n ns = None
-
 -- the whole numbers that texts write, where each of them writes one
 abbrev pub whole_numbers : List (List ℕ) → Option (List ℤ)
 whole_numbers [] = Some []
-whole_numbers (text ∷ texts) = before_numbers (whole_number text) (whole_numbers texts)
+whole_numbers (text ∷ texts) = option_and_then (λ n. option_map (λ ns. n ∷ ns) (whole_numbers texts)) (whole_number text)
 
 -- one or more whole numbers inside `i64`, with commas between them
 abbrev pub starting_values : List ℕ → Option (List ℤ)

@@ -43,15 +43,15 @@ last_argument word OtherForm = CommandWord word ∷ []
 
 -- a word before another one, which its name takes as its value where it may be one
 abbrev pub named_argument : List ℕ → List ℕ → Bool → List ℕ → List PlainArgument → List PlainArgument → List PlainArgument
-named_argument name word true next from_next behind_next = Setting name next ∷ behind_next
-named_argument name word false next from_next behind_next = CommandWord word ∷ from_next
+named_argument name word true next from_next after_next = Setting name next ∷ after_next
+named_argument name word false next from_next after_next = CommandWord word ∷ from_next
 
 -- what a word of this form gives before another one
 abbrev pub next_arguments : List ℕ → WordForm → List ℕ → List (List ℕ) → List PlainArgument → List PlainArgument → List PlainArgument
-next_arguments word TwoDashes next words from_next behind_next = map (λ w. CommandWord w) (next ∷ words)
-next_arguments word (NameWithValue name value) next words from_next behind_next = Setting name value ∷ from_next
-next_arguments word (NameAlone name) next words from_next behind_next = named_argument name word (is_value next) next from_next behind_next
-next_arguments word OtherForm next words from_next behind_next = CommandWord word ∷ from_next
+next_arguments word TwoDashes next words from_next after_next = map (λ w. CommandWord w) (next ∷ words)
+next_arguments word (NameWithValue name value) next words from_next after_next = Setting name value ∷ from_next
+next_arguments word (NameAlone name) next words from_next after_next = named_argument name word (is_value next) next from_next after_next
+next_arguments word OtherForm next words from_next after_next = CommandWord word ∷ from_next
 
 -- What the words give. The first `--` counts for nothing, and each word after it is to be the command. Before it,
 -- `--NAME=VALUE` gives an option, and so do `--NAME` and the next word, where that doesn't begin with `-`. Every other

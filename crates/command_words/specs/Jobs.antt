@@ -24,15 +24,10 @@ pub record OptionsFor (A : Type 0) : Type 0 where
 abbrev pub no_options : {A : Type 0} → A → OptionsFor A
 no_options a = record { names = []; gives = λ values. Some a }
 
--- the value of a function, where both are there
-abbrev pub function_value : {A B : Type 0} → Option (A → B) → Option A → Option B
-function_value (Some f) (Some a) = Some (f a)
-function_value f a = None
-
 infixl 40 ◌⊛◌
 -- the value of a function that some options give, at what others give
 abbrev pub ◌⊛◌ : {A B : Type 0} → OptionsFor (A → B) → OptionsFor A → OptionsFor B
-f ⊛ a = record { names = f.names ++ a.names; gives = λ values. function_value (f.gives values) (a.gives values) }
+f ⊛ a = record { names = f.names ++ a.names; gives = λ values. option_and_then (λ g. option_map g (a.gives values)) (f.gives values) }
 
 -- a number that has to be given, from the lowest to the highest
 abbrev pub number_option : List ℕ → ℕ → ℕ → OptionsFor ℕ

@@ -20,8 +20,8 @@ abbrev pub built_rules : List (List ℕ) → List Rule
 built_rules names = built_word ∷ map built_option names
 
 -- the name is one of the names
-abbrev pub known : List (List ℕ) → List ℕ → Bool
-known names name = list_any (λ n. pointwise nat_eq name n) names
+abbrev pub has_name : List (List ℕ) → List ℕ → Bool
+has_name names name = list_any (λ n. pointwise nat_eq name n) names
 
 -- a name that passes the test for this one is this one
 pub same_name : (a b : List ℕ) → bytes_eq a b ≡ true → a ≡ b
@@ -31,38 +31,38 @@ pub itself : (a : List ℕ) → bytes_eq a a ≡ true
 itself a = (bytes_eq-Decides a a).1 refl
 
 long_among : (names : List (List ℕ)) (name : List ℕ)
-    → find (λ (a : Rule). not (is_some a.index) && has_long a name) (map built_option names) ≡ cond (known names name) (Some (built_option name)) None
+    → find (λ (a : Rule). not (is_some a.index) && has_long a name) (map built_option names) ≡ cond (has_name names name) (Some (built_option name)) None
 long_among [] name = refl
 long_among (n ∷ names) name = go (bytes_eq n name) refl (long_among names name)
   where
-    go : (b : Bool) → bytes_eq n name ≡ b → find (λ (a : Rule). not (is_some a.index) && has_long a name) (map built_option names) ≡ cond (known names name) (Some (built_option name)) None
-        → find (λ (a : Rule). not (is_some a.index) && has_long a name) (map built_option (n ∷ names)) ≡ cond (known (n ∷ names) name) (Some (built_option name)) None
+    go : (b : Bool) → bytes_eq n name ≡ b → find (λ (a : Rule). not (is_some a.index) && has_long a name) (map built_option names) ≡ cond (has_name names name) (Some (built_option name)) None
+        → find (λ (a : Rule). not (is_some a.index) && has_long a name) (map built_option (n ∷ names)) ≡ cond (has_name (n ∷ names) name) (Some (built_option name)) None
     go true e rest = rw (e, nat_list_eq_equiv.symm name n ∙ e) (ap (λ m. Some (built_option m)) (same_name n name e))
     go false e rest = rw (e, nat_list_eq_equiv.symm name n ∙ e) rest
 
 -- an option is found by its name
-pub by_long : (names : List (List ℕ)) (name : List ℕ) → arg_by_long (built_rules names) name ≡ cond (known names name) (Some (built_option name)) None
+pub by_long : (names : List (List ℕ)) (name : List ℕ) → arg_by_long (built_rules names) name ≡ cond (has_name names name) (Some (built_option name)) None
 by_long names name = long_among names name
 
-id_among : (names : List (List ℕ)) (name : List ℕ) → find (λ (a : Rule). bytes_eq a.id name) (map built_option names) ≡ cond (known names name) (Some (built_option name)) None
+id_among : (names : List (List ℕ)) (name : List ℕ) → find (λ (a : Rule). bytes_eq a.id name) (map built_option names) ≡ cond (has_name names name) (Some (built_option name)) None
 id_among [] name = refl
 id_among (n ∷ names) name = go (bytes_eq n name) refl (id_among names name)
   where
-    go : (b : Bool) → bytes_eq n name ≡ b → find (λ (a : Rule). bytes_eq a.id name) (map built_option names) ≡ cond (known names name) (Some (built_option name)) None
-        → find (λ (a : Rule). bytes_eq a.id name) (map built_option (n ∷ names)) ≡ cond (known (n ∷ names) name) (Some (built_option name)) None
+    go : (b : Bool) → bytes_eq n name ≡ b → find (λ (a : Rule). bytes_eq a.id name) (map built_option names) ≡ cond (has_name names name) (Some (built_option name)) None
+        → find (λ (a : Rule). bytes_eq a.id name) (map built_option (n ∷ names)) ≡ cond (has_name (n ∷ names) name) (Some (built_option name)) None
     go true e rest = rw (e, nat_list_eq_equiv.symm name n ∙ e) (ap (λ m. Some (built_option m)) (same_name n name e))
     go false e rest = rw (e, nat_list_eq_equiv.symm name n ∙ e) rest
 
--- a known name isn't another one that is unknown
-pub apart : (names : List (List ℕ)) (name other : List ℕ) → known names name ≡ true → known names other ≡ false → bytes_eq other name ≡ false
+-- one of the names isn't a name that is none of them
+pub apart : (names : List (List ℕ)) (name other : List ℕ) → has_name names name ≡ true → has_name names other ≡ false → bytes_eq other name ≡ false
 apart names name other here none = go (bytes_eq other name) refl
   where
     go : (b : Bool) → bytes_eq other name ≡ b → b ≡ false
     go false e = refl
-    go true e = sym here ∙ ap (known names) (sym (same_name other name e)) ∙ none
+    go true e = sym here ∙ ap (has_name names) (sym (same_name other name e)) ∙ none
 
 -- and by its id
-pub by_id : (names : List (List ℕ)) (name : List ℕ) → known names (codes "command") ≡ false → known names name ≡ true → arg_by_id (built_rules names) name ≡ Some (built_option name)
+pub by_id : (names : List (List ℕ)) (name : List ℕ) → has_name names (codes "command") ≡ false → has_name names name ≡ true → arg_by_id (built_rules names) name ≡ Some (built_option name)
 by_id names name none here = rw (apart names name (codes "command") here none) (id_among names name ∙ ap (λ b. cond b (Some (built_option name)) None) here)
 
 -- there is no second place
