@@ -77,8 +77,8 @@ module _ (g : EventGraph) where
   no_negation (Binary op x y) b c is = refl
   no_negation (If t x y) b c is = refl
 
-  told_apart : (left : Expression) (a b : Expression) (x y : Compared) → never a ≡ false → never b ≡ false → comparison_of a ≡ Some (comparison_with left x) → comparison_of b ≡ Some (comparison_with left y) → exclusive g a b ≡ never_both x y
-  told_apart left a b x y a_lives b_lives is_x is_y =
+  exclusive-never_both : (left : Expression) (a b : Expression) (x y : Compared) → never a ≡ false → never b ≡ false → comparison_of a ≡ Some (comparison_with left x) → comparison_of b ≡ Some (comparison_with left y) → exclusive g a b ≡ never_both x y
+  exclusive-never_both left a b x y a_lives b_lives is_x is_y =
       ap₂ (λ p q. (p || q) || (never a || never b) || compare_apart (comparison_of a) (comparison_of b)) (no_negation a b (comparison_with left x) is_x) (no_negation b a (comparison_with left y) is_y)
       ∙ ap₂ (λ p q. (p || q) || compare_apart (comparison_of a) (comparison_of b)) a_lives b_lives
       ∙ ap₂ compare_apart is_x is_y
@@ -97,17 +97,17 @@ module _ (g : EventGraph) where
   rest_of : {A : Type 0} {x y : A} {xs ys : List A} → (x ∷ xs) ≡ (y ∷ ys) → xs ≡ ys
   rest_of e = cc
 
-  all_told : (left a : Expression) (x : Compared) → never a ≡ false → comparison_of a ≡ Some (comparison_with left x) → (cs : List Expression) (all : List Compared) → Live cs → Alike left cs all → list_all (exclusive g a) cs ≡ list_all (never_both x) all
-  all_told left a x lives is [] [] live alike = refl
-  all_told left a x lives is [] (y ∷ all) live alike = cc
-  all_told left a x lives is (c ∷ cs) [] live alike = cc
-  all_told left a x lives is (c ∷ cs) (y ∷ all) live alike = ap₂ (λ p q. p && q) (told_apart left a c x y lives (first_of live) is (first_of alike)) (all_told left a x lives is cs all (rest_of live) (rest_of alike))
+  all_exclusive-never_both : (left a : Expression) (x : Compared) → never a ≡ false → comparison_of a ≡ Some (comparison_with left x) → (cs : List Expression) (all : List Compared) → Live cs → Alike left cs all → list_all (exclusive g a) cs ≡ list_all (never_both x) all
+  all_exclusive-never_both left a x lives is [] [] live alike = refl
+  all_exclusive-never_both left a x lives is [] (y ∷ all) live alike = cc
+  all_exclusive-never_both left a x lives is (c ∷ cs) [] live alike = cc
+  all_exclusive-never_both left a x lives is (c ∷ cs) (y ∷ all) live alike = ap₂ (λ p q. p && q) (exclusive-never_both left a c x y lives (first_of live) is (first_of alike)) (all_exclusive-never_both left a x lives is cs all (rest_of live) (rest_of alike))
 
-  pairs_told : (left : Expression) (cs : List Expression) (all : List Compared) → Live cs → Alike left cs all → each_pair (exclusive g) cs ≡ each_pair never_both all
-  pairs_told left [] [] live alike = refl
-  pairs_told left [] (y ∷ all) live alike = cc
-  pairs_told left (c ∷ cs) [] live alike = cc
-  pairs_told left (c ∷ cs) (y ∷ all) live alike = ap₂ (λ p q. p && q) (all_told left c y (first_of live) (first_of alike) cs all (rest_of live) (rest_of alike)) (pairs_told left cs all (rest_of live) (rest_of alike))
+  each_pair-never_both : (left : Expression) (cs : List Expression) (all : List Compared) → Live cs → Alike left cs all → each_pair (exclusive g) cs ≡ each_pair never_both all
+  each_pair-never_both left [] [] live alike = refl
+  each_pair-never_both left [] (y ∷ all) live alike = cc
+  each_pair-never_both left (c ∷ cs) [] live alike = cc
+  each_pair-never_both left (c ∷ cs) (y ∷ all) live alike = ap₂ (λ p q. p && q) (all_exclusive-never_both left c y (first_of live) (first_of alike) cs all (rest_of live) (rest_of alike)) (each_pair-never_both left cs all (rest_of live) (rest_of alike))
 
   lives : (es : List EventEdge) → Live (live_conditions g es)
   lives [] = refl
@@ -118,8 +118,8 @@ module _ (g : EventGraph) where
     by true true is rest = rest
 
   -- if all live edges compare one and the same with numbers, these decide whether any two exclude each other
-  pub alike_told : (left : Expression) (es : List EventEdge) (all : List Compared) → AreCompared g left es all → each_pair never_both all ≡ each_pair (exclusive g) (urgent_conditions es)
-  alike_told left es all alike = sym (pairs_told left (live_conditions g es) all (lives es) alike) ∙ sym (pairs_live es)
+  pub never_both-urgent : (left : Expression) (es : List EventEdge) (all : List Compared) → AreCompared g left es all → each_pair never_both all ≡ each_pair (exclusive g) (urgent_conditions es)
+  never_both-urgent left es all alike = sym (each_pair-never_both left (live_conditions g es) all (lives es) alike) ∙ sym (pairs_live es)
 
   -- one more edge
   pub one_more : (left : Expression) (e : EventEdge) (es : List EventEdge) (x : Compared) (all : List Compared) → is_live g e ≡ true → comparison_of e.condition ≡ Some (comparison_with left x)
@@ -130,8 +130,8 @@ module _ (g : EventGraph) where
   one_more left e es x (y ∷ all) live is = ap (λ cs. Some (comparison_with left y) ∷ cs) (one_more left e es x all live is)
 
   -- an edge that isn't live excludes all others
-  pub behind_none : (e : EventEdge) (es : List EventEdge) → is_live g e ≡ false → each_pair (exclusive g) (urgent_conditions (e ∷ es)) ≡ each_pair (exclusive g) (urgent_conditions es)
-  behind_none e es live = by (is_urgent e) (never e.condition) refl live where
+  pub each_pair-not_live : (e : EventEdge) (es : List EventEdge) → is_live g e ≡ false → each_pair (exclusive g) (urgent_conditions (e ∷ es)) ≡ each_pair (exclusive g) (urgent_conditions es)
+  each_pair-not_live e es live = by (is_urgent e) (never e.condition) refl live where
     by : (urgent never_true : Bool) → never e.condition ≡ never_true → (urgent && not never_true) ≡ false
         → each_pair (exclusive g) (map (λ (e : EventEdge). e.condition) (cond urgent (e ∷ filter is_urgent es) (filter is_urgent es))) ≡ each_pair (exclusive g) (urgent_conditions es)
     by false n is live = refl
@@ -163,17 +163,17 @@ module _ (g : EventGraph) where
 
   -- where no other one is live, it excludes them
   aside_given : (c : Expression) (es : List EventEdge) (k : ℕ) → list_any (is_live g) (take k es) ≡ false → list_any (is_live g) (drop (suc k) es) ≡ false → each_pair (exclusive g) (urgent_conditions (with_place (given c) k es)) ≡ true
-  aside_given c [] k before behind = refl
-  aside_given c (x ∷ es) zero before behind = by (is_urgent x) where
+  aside_given c [] k before none_after = refl
+  aside_given c (x ∷ es) zero before none_after = by (is_urgent x) where
     pairs : each_pair (exclusive g) (urgent_conditions es) ≡ true
-    pairs = pairs_live es ∙ ap (each_pair (exclusive g)) (none_live es behind)
+    pairs = pairs_live es ∙ ap (each_pair (exclusive g)) (none_live es none_after)
 
     by : (b : Bool) → each_pair (exclusive g) (map (λ (e : EventEdge). e.condition) (cond b (given c x ∷ filter is_urgent es) (filter is_urgent es))) ≡ true
-    by true = ap₂ (λ p q. p && q) (all_live c es ∙ ap (list_all (exclusive g c)) (none_live es behind)) pairs
+    by true = ap₂ (λ p q. p && q) (all_live c es ∙ ap (list_all (exclusive g c)) (none_live es none_after)) pairs
     by false = pairs
-  aside_given c (x ∷ es) (suc k) before behind =
+  aside_given c (x ∷ es) (suc k) before none_after =
       let (here, later) = either_false (is_live g x) (list_any (is_live g) (take k es)) before in
-      behind_none x (with_place (given c) k es) here ∙ aside_given c es k later behind
+      each_pair-not_live x (with_place (given c) k es) here ∙ aside_given c es k later none_after
 
   -- the urgent edges still exclude each other, whatever condition that one gets
   pub any_condition_serves : (es : List EventEdge) (k : ℕ) → may_take_any_condition g es k ≡ true → (c : Expression) → each_pair (exclusive g) (urgent_conditions es) ≡ true → each_pair (exclusive g) (urgent_conditions (with_place (given c) k es)) ≡ true
@@ -182,20 +182,20 @@ module _ (g : EventGraph) where
     by false live is others may = ap (each_pair (exclusive g)) (calm_given c es k is) ∙ pairs
     by true true is others may = cc
     by true false is others may =
-        let (before, behind) = either_false (list_any (is_live g) (take k es)) (list_any (is_live g) (drop (suc k) es)) (sym (list_any-append (is_live g) (take k es) (drop (suc k) es)) ∙ others) in
-        aside_given c es k before behind
+        let (before, none_after) = either_false (list_any (is_live g) (take k es)) (list_any (is_live g) (drop (suc k) es)) (sym (list_any-append (is_live g) (take k es) (drop (suc k) es)) ∙ others) in
+        aside_given c es k before none_after
 
 -- a comparison of the same with a number
-pub comparison_told : (op : Operator) (operand left number : Expression) (n : ℤ) → is_comparison op ≡ true → same_expression operand left ≡ true → literal_number number ≡ Some n → comparison_of (Binary op operand number) ≡ Some (record { left = left; operator = op; number = n })
-comparison_told op operand left number n compares same is =
+pub comparison_of-number : (op : Operator) (operand left number : Expression) (n : ℤ) → is_comparison op ≡ true → same_expression operand left ≡ true → literal_number number ≡ Some n → comparison_of (Binary op operand number) ≡ Some (record { left = left; operator = op; number = n })
+comparison_of-number op operand left number n compares same is =
     ap (λ b. cond b (option_map (λ n. record { left = operand; operator = op; number = n }) (literal_number number)) None) compares
     ∙ ap (option_map (λ n. record { left = operand; operator = op; number = n })) is
     ∙ ap (λ e. Some (record { left = e; operator = op; number = n })) (true-same_expression operand left same)
 
 -- such a number is that of the literal
-pub short_told : (o : Option ℤ) (n : ℤ) → Some n ≡ option_and_then (λ n. cond (fits n) (Some n) None) o → (o ≡ Some n) × (fits n ≡ true)
-short_told None n e = cc
-short_told (Some m) n e = by (fits m) refl e where
+pub some_fits : (o : Option ℤ) (n : ℤ) → Some n ≡ option_and_then (λ n. cond (fits n) (Some n) None) o → (o ≡ Some n) × (fits n ≡ true)
+some_fits None n e = cc
+some_fits (Some m) n e = by (fits m) refl e where
   by : (b : Bool) → fits m ≡ b → Some n ≡ cond b (Some m) None → (Some m ≡ Some n) × (fits n ≡ true)
   by false is e = cc
   by true is e = let same : n ≡ m = cc in (sym e, ap fits same ∙ is)
@@ -209,8 +209,8 @@ all_compared left live rest n none compared counted within =
     sym (ap₂ (λ a b. a && b) all (le-leb (length live) EDGES_MAX few))
 
 -- the others are those before the place and those after it
-pub another_told : (p : EventEdge → Bool) (es : List Edge) (k : ℕ) → list_any p (remove (map edge_of es) k) ≡ (list_any p (map edge_of (take k es)) || list_any p (map edge_of (drop (k + 1) es)))
-another_told p es k =
+pub any-removed : (p : EventEdge → Bool) (es : List Edge) (k : ℕ) → list_any p (remove (map edge_of es) k) ≡ (list_any p (map edge_of (take k es)) || list_any p (map edge_of (drop (k + 1) es)))
+any-removed p es k =
     let next : suc k ≡ k + 1 = omega arith in
     list_any-append p (take k (map edge_of es)) (drop (suc k) (map edge_of es))
     ∙ ap₂ (λ a b. a || b) (ap (list_any p) (take-map edge_of k es)) (ap (list_any p) (ap (λ n. drop n (map edge_of es)) next ∙ drop-map edge_of (k + 1) es))

@@ -4,7 +4,7 @@ use Rattle.model_core.specs.EventGraph.{Truth}
 use Rattle.model_core.specs.Code.Views.{operator_of}
 use Rattle.model_core.proofs.SignedBits.{signed_bits}
 use Rattle.range_bounds.specs.Near.{one_beside_meets}
-use Rattle.range_bounds.proofs.ComparedNumbers.{meets_told}
+use Rattle.range_bounds.proofs.ComparedNumbers.{meets-some_both}
 use Rattle.range_bounds.proofs.alike.is_apart.Goals as goal
 
 pub returns-in_default : goal.returns-in_default
@@ -14,4 +14,4 @@ returns-in_default c =
     let m = c.args.a.number in
     let n = c.args.b.number in
     let met : c.some_meets_both.result ≡ (one_beside_meets p m q n m || one_beside_meets p m q n n) = search (rules, signed_bits) in
-    ap not (met ∙ meets_told p q (Truth true) (Truth true) m n)
+    ap not (met ∙ meets-some_both p q (Truth true) (Truth true) m n)

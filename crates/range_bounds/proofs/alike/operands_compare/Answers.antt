@@ -7,17 +7,17 @@ use Rattle.model_core.specs.Rules.Exclusive.{same_expression, literal_number, Co
 use Rattle.model_core.specs.Code.Views.{expression_of, operator_of}
 use Rattle.model_core.proofs.SignedBits.{signed_bits}
 use Rattle.model_core.proofs.SameExpressions.{same_itself}
-use Rattle.range_bounds.proofs.ExcludedByNumbers.{comparison_told, short_told}
+use Rattle.range_bounds.proofs.ExcludedByNumbers.{comparison_of-number, some_fits}
 use Rattle.range_bounds.proofs.alike.operands_compare.Goals as goal
 
 pub returns : goal.returns
 returns c =
     let left = expression_of c.args.left.now in
     let number = c.in_ok-number.number in
-    let (short, within) = short_told (literal_number (expression_of c.args.number.now)) number c.in_ok-number.ensures in
-    let told : comparison_of (Binary (operator_of c.args.op) (expression_of c.args.operand.now) (expression_of c.args.number.now)) ≡ Some (record { left = left; operator = operator_of c.args.op; number = number })
-    = comparison_told _ _ _ _ _ (sym c.is_comparison.ensures ∙ c.if-not-is_comparison.false) (sym c.is_same.ensures ∙ c.if-not-is_same.false) short in
+    let (short, within) = some_fits (literal_number (expression_of c.args.number.now)) number c.in_ok-number.ensures in
+    let compared : comparison_of (Binary (operator_of c.args.op) (expression_of c.args.operand.now) (expression_of c.args.number.now)) ≡ Some (record { left = left; operator = operator_of c.args.op; number = number })
+    = comparison_of-number _ _ _ _ _ (sym c.is_comparison.ensures ∙ c.if-not-is_comparison.false) (sym c.is_same.ensures ∙ c.if-not-is_same.false) short in
     record {
       is = search (rules, signed_bits);
-      found = sym (ap (λ (o : Option Comparison). option_map_or (λ (c : Comparison). same_expression c.left left && fits c.number) o false) told ∙ ap₂ (λ a b. a && b) (same_itself left) within);
+      found = sym (ap (λ (o : Option Comparison). option_map_or (λ (c : Comparison). same_expression c.left left && fits c.number) o false) compared ∙ ap₂ (λ a b. a && b) (same_itself left) within);
     }
