@@ -5,7 +5,7 @@ ghost use Rattle.model_core.specs.Rules.Entailed.{entailed_marks};
 ghost use Rattle.mark_laws.specs.PlacePairs.{places_behind, pairs_from};
 ghost use Rattle.marked_walks.specs.Inner.Finding.{found_of, find_one, find_all, find_nth, Going};
 
-use crate::places_behind::PlaceSuccessors;
+use crate::place_successors::PlaceSuccessors;
 use sig_base::NoMemory;
 use std::alloc::Global;
 

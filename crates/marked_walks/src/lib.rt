@@ -6,7 +6,7 @@ mod entailing;
 mod law;
 mod marks;
 mod moving_up;
-mod places_behind;
+mod place_successors;
 mod renumbering;
 mod staying;
 
@@ -14,6 +14,6 @@ pub use entailing::entailed;
 pub use law::marks_are_of_entailed_places;
 pub use marks::{is_marked, unmarked};
 pub use moving_up::{keep, keep_staying};
-pub use places_behind::PlaceSuccessors;
+pub use place_successors::PlaceSuccessors;
 pub use renumbering::{NewPlaces, renumber_vertices, renumber_watch};
 pub use staying::Staying;
