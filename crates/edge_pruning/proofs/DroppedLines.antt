@@ -7,11 +7,10 @@ use Rattle.std.specs.List.{flat_map, list_any, range_with_len}
 use Rattle.std.specs.Option.{option_map_or}
 use Rattle.std.proofs.lemmas.Simd.{map-map}
 use Rattle.std.proofs.lemmas.Option.{slice_get_past}
-use Rattle.sig_base.specs.declared.limits.TheConstants.{PARAMETERS_MAX_VERSION_1}
-use Rattle.model_core.specs.EventGraph.{EventGraph, EventVertex, EventEdge, Watched, WatchedVariable, WatchedVertex, has_drawn_delay}
+use Rattle.model_core.specs.EventGraph.{EventGraph, EventVertex, EventEdge, Watched, WatchedVariable, WatchedVertex}
 use Rattle.model_core.specs.Run.Step.{no_vertex, vertex_at}
 use Rattle.model_core.specs.Text.Canonical.{vertex_name, vertex_lines, variable_name, change_line, edge_line, edge_word, expression_texts, timing_text, condition_text, in_parentheses, variable_line, table_line, watched_name, watch_names_line, watch_line, canonical, version_line}
-use Rattle.model_core.specs.Text.VersionNeeded.{is_large_array, has_many_targets, has_later_parts, needs_version_two}
+use Rattle.model_core.specs.Text.VersionNeeded.{is_large_array, has_later_parts, needs_version_two}
 use Rattle.model_core.specs.Rules.Conditions.{first_failed}
 use Rattle.model_core.specs.Rules.MarkedPlaces.{rank, marked_of, is_marked, unmarked_places}
 use Rattle.model_core.specs.Rules.Reached.{reached_marks, unreached}
@@ -21,6 +20,7 @@ use Rattle.mark_laws.proofs.MarksBelow.{marked-among}
 use Rattle.mark_laws.proofs.ReachedLong.{reached_marks-long}
 use Rattle.model_core.proofs.Among.{Among}
 use Rattle.model_core.proofs.Images.{shown-map, flat_map-map}
+use Rattle.model_core.proofs.VersionParts.{list_any-map, has_later_parts-renumbered}
 use Rattle.mark_laws.proofs.MarkedItems.{marked_of-map}
 use Rattle.edge_pruning.proofs.DropResult.{lists_unreached, without_unreached}
 use Rattle.edge_pruning.proofs.ReachedMarks.{watched-begins, HoldReached, reached_marks-hold}
@@ -77,25 +77,17 @@ texts-unmarked old d marks xs long = sym (flat_map-map (λ k. slice_index_or xs 
 
 -- ---- tests of elements
 
-any-mapped : {A B : Type 0} (new : B → Bool) (f : A → B) (old : A → Bool) → ((x : A) → new (f x) ≡ old x) → (xs : List A) → list_any new (map f xs) ≡ list_any old xs
-any-mapped new f old same [] = refl
-any-mapped new f old same (x ∷ xs) = ap₂ (λ a b. a || b) (same x) (any-mapped new f old same xs)
-
 -- where none of the others passes a test, as many pass it as among all
 any-parted : {A : Type 0} (test : A → Bool) (marks : List Bool) (xs : List A) → length marks ≡ length xs → list_any test (marked_of (map not marks) xs) ≡ false → list_any test (marked_of marks xs) ≡ list_any test xs
 any-parted test [] [] long none = refl
 any-parted test [] (x ∷ xs) long none = absurd (omega (arith, long))
 any-parted test (b ∷ bs) [] long none = absurd (omega (arith, long))
 any-parted test (true ∷ bs) (x ∷ xs) long none = ap (λ b. test x || b) (any-parted test bs xs (omega (arith, long)) none)
-any-parted test (false ∷ bs) (x ∷ xs) long none = behind (test x) (list_any test (marked_of (map not bs) xs)) none (any-parted test bs xs (omega (arith, long)))
+any-parted test (false ∷ bs) (x ∷ xs) long none = by (test x) (list_any test (marked_of (map not bs) xs)) none (any-parted test bs xs (omega (arith, long)))
   where
-    behind : (b others : Bool) → (b || others) ≡ false → (others ≡ false → list_any test (marked_of bs xs) ≡ list_any test xs) → list_any test (marked_of bs xs) ≡ (b || list_any test xs)
-    behind true others h later = absurd cc
-    behind false others h later = later h
-
--- new places leave a vertex the parts that only a text of version 2 can write
-later-same : (f : ℕ → ℕ) (v : EventVertex) → has_later_parts (vertex_renumbered f v) ≡ has_later_parts v
-later-same f v = ap (λ drawn. nat_lt PARAMETERS_MAX_VERSION_1 (length v.parameters) || list_any has_many_targets v.changes || drawn) (any-mapped has_drawn_delay (edge_renumbered f) has_drawn_delay (λ e. refl) v.edges)
+    by : (b others : Bool) → (b || others) ≡ false → (others ≡ false → list_any test (marked_of bs xs) ≡ list_any test xs) → list_any test (marked_of bs xs) ≡ (b || list_any test xs)
+    by true others h later = absurd cc
+    by false others h later = later h
 
 -- ---- places
 
@@ -180,8 +172,8 @@ module _ (g : EventGraph) (marks : List Bool) (hold : HoldReached g marks) (long
   needed_same : NoneLater → needs_version_two h ≡ needs_version_two g
   needed_same none =
       let at = λ (k : ℕ). slice_index_or g.vertices k no_vertex in
-      let gone = ap (list_any has_later_parts) (sym (elements-unmarked no_vertex marks g.vertices long)) ∙ any-mapped has_later_parts at (λ k. has_later_parts (at k)) (λ k. refl) (unmarked_places marks) ∙ none in
-      ap (λ later. list_any is_large_array g.variables || later) (any-mapped has_later_parts (vertex_renumbered f) has_later_parts (later-same f) kept ∙ any-parted has_later_parts marks g.vertices long gone)
+      let gone = ap (list_any has_later_parts) (sym (elements-unmarked no_vertex marks g.vertices long)) ∙ list_any-map has_later_parts at (λ k. has_later_parts (at k)) (λ k. refl) (unmarked_places marks) ∙ none in
+      ap (λ later. list_any is_large_array g.variables || later) (list_any-map has_later_parts (vertex_renumbered f) has_later_parts (has_later_parts-renumbered f) kept ∙ any-parted has_later_parts marks g.vertices long gone)
 
   front_length : (b c : Bool) (watch : List ℕ) → length (front b watch) + length (version_line c) ≡ length (front c watch) + length (version_line b)
   front_length true true watch = refl

@@ -5,7 +5,7 @@ use Rattle.std.specs.Prelude.{filter, nat_lt, slice_get, slice_index_or, Option}
 use Rattle.std.specs.List.{list_any, range_with_len, remove}
 use Rattle.std.specs.Option.{option_map_or, option_and_then}
 use Rattle.std.proofs.lemmas.Bool.Decides.{nat_tests}
-use Rattle.std.proofs.lemmas.Bool.{ltb-true, eqb-false, not-true, cases_Bool}
+use Rattle.std.proofs.lemmas.Bool.{ltb-true, eqb-false, not-true, cases_Bool, eqb-true}
 use Rattle.model_core.specs.EventGraph.{EventGraph, EventVertex, EventEdge, WatchedVertex, Watched}
 use Rattle.model_core.specs.Run.Step.{no_vertex, vertex_at}
 use Rattle.model_core.specs.Run.History.{watches}
@@ -20,7 +20,6 @@ use Rattle.model_core.proofs.BothTrue.{and_first, and_second}
 use Rattle.model_core.proofs.Among.{Among, among-contained, contained-among, among-front, among-back, any-among, among-any}
 use Rattle.model_core.proofs.PlacesChanged.{length_placed, same_number, apart-turned, placed-elsewhere, placed-there}
 use Rattle.mark_laws.proofs.Marks.{Marked}
-use Rattle.mark_laws.proofs.EntailedMarks.{same-place}
 use Rattle.mark_laws.proofs.ReachedLong.{reached_marks-long}
 use Rattle.mark_laws.proofs.UnmarkedPlaces.{apart-or-same, none_unmarked, marked_all}
 use Rattle.edge_pruning.proofs.ReachedMarks.{has_edges, reachable-marked, reached_marks-hold, reached_marks-reachable}
@@ -60,11 +59,11 @@ at-among (v ∷ vs) (suc k) below = inr (at-among vs k (omega (arith, below)))
 -- ---- places that aren't marked
 
 module _ (test : ℕ → Bool) (b : ℕ) where
-  none-behind : (a n : ℕ) → b < a → ((k : ℕ) → k < a + n → (k == b) ≡ false → test k ≡ false) → filter test (range_with_len a n) ≡ []
-  none-behind a zero past others = refl
-  none-behind a (suc n) past others =
+  none-after : (a n : ℕ) → b < a → ((k : ℕ) → k < a + n → (k == b) ≡ false → test k ≡ false) → filter test (range_with_len a n) ≡ []
+  none-after a zero past others = refl
+  none-after a (suc n) past others =
       ap (λ t. cond t (a ∷ filter test (range_with_len (a + 1) n)) (filter test (range_with_len (a + 1) n))) (others a (omega arith) (let e : (a == b) ≡ false = grind (arith, nat_tests) in e))
-      ∙ none-behind (a + 1) n (omega (arith, past)) (λ k below. others k (omega (arith, below)))
+      ∙ none-after (a + 1) n (omega (arith, past)) (λ k below. others k (omega (arith, below)))
 
   one-passes : (a n : ℕ) → a ≤ b → b < a + n → test b ≡ true → ((k : ℕ) → k < a + n → (k == b) ≡ false → test k ≡ false) → filter test (range_with_len a n) ≡ b ∷ []
   one-passes a zero from below passes others = absurd (omega (arith, from, below))
@@ -75,7 +74,7 @@ module _ (test : ℕ → Bool) (b : ℕ) where
     by : (a ≡ b) ⊎ ((a == b) ≡ false) → (a + 1 ≤ b → b < a + 1 + n → test b ≡ true → ((k : ℕ) → k < a + 1 + n → (k == b) ≡ false → test k ≡ false) → rest ≡ b ∷ []) → cond (test a) (a ∷ rest) rest ≡ b ∷ []
     by (inl same) later =
         ap (λ t. cond t (a ∷ rest) rest) (ap test same ∙ passes)
-        ∙ ap₂ (λ k ks. k ∷ ks) same (none-behind (a + 1) n (omega (arith, same)) (λ k below. others k (omega (arith, below))))
+        ∙ ap₂ (λ k ks. k ∷ ks) same (none-after (a + 1) n (omega (arith, same)) (λ k below. others k (omega (arith, below))))
     by (inr apart) later =
         ap (λ t. cond t (a ∷ rest) rest) (others a (omega arith) apart)
         ∙ later (let l : a + 1 ≤ b = grind (arith, nat_tests) in l) (omega (arith, below)) passes (λ k below. others k (omega (arith, below)))
@@ -101,7 +100,7 @@ led-at : (v : EventVertex) (second : ℕ) → option_map_or (leads_to second) (p
 led-at v second leads = by (plain_urgent v) refl leads where
   by : (o : Option ℕ) → plain_urgent v ≡ o → option_map_or (leads_to second) (option_and_then (slice_get v.edges) o) false ≡ true → (place : ℕ) × (plain_urgent v ≡ Some place) × ((e : EventEdge) → slice_get v.edges place ≡ Some e → e.target ≡ second)
   by None is h = cc
-  by (Some place) is h = (place, is, λ e there. same-place e.target second (ap (λ o. option_map_or (leads_to second) o false) (sym there) ∙ h))
+  by (Some place) is h = (place, is, λ e there. eqb-true e.target second (ap (λ o. option_map_or (leads_to second) o false) (sym there) ∙ h))
 
 pub joined : (g : EventGraph) (first second : ℕ) → first_failed (merge_conditions g first second) ≡ None → Joined g first second
 joined g first second none =
@@ -206,7 +205,7 @@ module _ (g : EventGraph) (first second : ℕ) (j : Joined g first second) (all 
         let (k, at) = among-at h.vertices v among in
         let (e, there, leads) = any-among (leads_to second) v.edges some in
         let there_too : Among e (vertex_at h k).edges = subst (λ (w : EventVertex). Among e w.edges) (sym at) there in
-        from k e there_too (same-place e.target second leads) (omega (arith, has_edges h.vertices k e there_too, long)) (apart-or-same k second)
+        from k e there_too (eqb-true e.target second leads) (omega (arith, has_edges h.vertices k e there_too, long)) (apart-or-same k second)
 
   -- ---- and else it is the only one that can't
 

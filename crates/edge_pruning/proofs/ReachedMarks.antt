@@ -2,6 +2,7 @@
 -- over the pairs of a vertex and a target of its edges.
 use Rattle.std.proofs.Common.{◌≡◌, inl, inr, ℕ, zero, suc, ◌<◌, ◌==◌, Bool, true, ◌||◌, List, [], ◌∷◌, length, slice_index_or, refl, sym, ap, ap₂, subst, arith, ◌∙◌}
 use Rattle.std.specs.List.{list_any}
+use Rattle.std.proofs.lemmas.Bool.{eqb-true}
 use Rattle.model_core.specs.EventGraph.{EventGraph, EventVertex, EventEdge, Watched, WatchedVariable, WatchedVertex}
 use Rattle.model_core.specs.Run.Step.{no_vertex, vertex_at}
 use Rattle.model_core.specs.Run.History.{watches}
@@ -12,7 +13,7 @@ use Rattle.model_core.specs.Rules.LeastRelations.{Reachable, reach_first, reach_
 use Rattle.mark_laws.specs.PlacePairs.{places_behind, pairs_from}
 use Rattle.mark_laws.proofs.Marks.{Marked}
 use Rattle.model_core.proofs.PlacesChanged.{same_number, same_on_range}
-use Rattle.mark_laws.proofs.EntailedMarks.{same-place, among-place, entailed-by, by-entailed, HoldEntailed, entailed_marks-entailed, entailed_marks-hold}
+use Rattle.mark_laws.proofs.EntailedMarks.{among-place, entailed-by, by-entailed, HoldEntailed, entailed_marks-entailed, entailed_marks-hold}
 use Rattle.model_core.proofs.Among.{Among, among-contained, contained-among, among-map, among-of_map, second_true, any-among, among-any}
 use Rattle.mark_laws.proofs.MarksBelow.{among-marked, marked-among, same_mark}
 use Rattle.mark_laws.proofs.PairsBehind.{behind-pairs, pairs-behind}
@@ -38,7 +39,7 @@ watches-alike (WatchedVariable v ∷ watch) k = watches-alike watch k
 watches-alike (WatchedVertex v ∷ watch) k = ap (λ b. (v == k) || b) (watches-alike watch k)
 
 zero-alike : (k : ℕ) → (k == 0) ≡ (0 == k)
-zero-alike k = same_mark (k == 0) (0 == k) (λ e. same_number 0 k (sym (same-place k 0 e))) (λ e. same_number k 0 (sym (same-place 0 k e)))
+zero-alike k = same_mark (k == 0) (0 == k) (λ e. same_number 0 k (sym (eqb-true k 0 e))) (λ e. same_number k 0 (sym (eqb-true 0 k e)))
 
 -- ---- one edge, and one pair
 
@@ -47,21 +48,21 @@ has_edges [] k e h = absurd h
 has_edges (v ∷ vs) zero e h = omega arith
 has_edges (v ∷ vs) (suc k) e h = omega (arith, has_edges vs k e h)
 
-pub behind-targets : (vs : List EventVertex) (k : ℕ) → places_behind (targets_by_vertex vs) k ≡ targets_of (slice_index_or vs k no_vertex).edges
-behind-targets [] k = refl
-behind-targets (v ∷ vs) zero = refl
-behind-targets (v ∷ vs) (suc k) = behind-targets vs k
+pub successors-targets : (vs : List EventVertex) (k : ℕ) → places_behind (targets_by_vertex vs) k ≡ targets_of (slice_index_or vs k no_vertex).edges
+successors-targets [] k = refl
+successors-targets (v ∷ vs) zero = refl
+successors-targets (v ∷ vs) (suc k) = successors-targets vs k
 
 edge-pair : (vs : List EventVertex) (k : ℕ) (e : EventEdge) → Among e (slice_index_or vs k no_vertex).edges → Among (k, e.target) (pairs_from 0 (targets_by_vertex vs))
 edge-pair vs k e among =
     behind-pairs (targets_by_vertex vs) 0 k k e.target (omega arith)
-    (subst (λ (ks : List ℕ). Among e.target ks) (sym (behind-targets vs k)) (among-map (λ (e : EventEdge). e.target) (slice_index_or vs k no_vertex).edges e among))
+    (subst (λ (ks : List ℕ). Among e.target ks) (sym (successors-targets vs k)) (among-map (λ (e : EventEdge). e.target) (slice_index_or vs k no_vertex).edges e among))
 
 pair-edge : (vs : List EventVertex) (k j : ℕ) → Among (k, j) (pairs_from 0 (targets_by_vertex vs)) → (e : EventEdge) × Among e (slice_index_or vs k no_vertex).edges × (e.target ≡ j)
 pair-edge vs k j among =
     let (i, is, there) = pairs-behind (targets_by_vertex vs) 0 k j among in
     let same : i ≡ k = omega (arith, is) in
-    among-of_map (λ (e : EventEdge). e.target) (slice_index_or vs k no_vertex).edges j (subst (λ (ks : List ℕ). Among j ks) (behind-targets vs k) (subst (λ (i : ℕ). Among j (places_behind (targets_by_vertex vs) i)) same there))
+    among-of_map (λ (e : EventEdge). e.target) (slice_index_or vs k no_vertex).edges j (subst (λ (ks : List ℕ). Among j ks) (successors-targets vs k) (subst (λ (i : ℕ). Among j (places_behind (targets_by_vertex vs) i)) same there))
 
 led-by : (vs : List EventVertex) (marks : List Bool) (k : ℕ) → is_led_to marks vs k ≡ true → is_entailed_by marks (pairs_from 0 (targets_by_vertex vs)) k ≡ true
 led-by vs marks k led =
@@ -69,7 +70,7 @@ led-by vs marks k led =
     let (e, among_edges, is) = any-among (λ (e : EventEdge). e.target == k) v.edges some in
     let (vertex, marked, same) = marked-among marks vs v no_vertex among in
     let there : Among (vertex, e.target) (pairs_from 0 (targets_by_vertex vs)) = edge-pair vs vertex e (subst (λ (v : EventVertex). Among e v.edges) (sym same) among_edges) in
-    by-entailed marks (pairs_from 0 (targets_by_vertex vs)) vertex k marked (subst (λ (j : ℕ). Among (vertex, j) (pairs_from 0 (targets_by_vertex vs))) (same-place e.target k is) there)
+    by-entailed marks (pairs_from 0 (targets_by_vertex vs)) vertex k marked (subst (λ (j : ℕ). Among (vertex, j) (pairs_from 0 (targets_by_vertex vs))) (eqb-true e.target k is) there)
 
 leads-to : (vs : List EventVertex) (marks : List Bool) (k : ℕ) → is_entailed_by marks (pairs_from 0 (targets_by_vertex vs)) k ≡ true → is_led_to marks vs k ≡ true
 leads-to vs marks k entails =

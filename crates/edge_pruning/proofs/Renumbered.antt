@@ -33,7 +33,7 @@ placed_does f v w is = record {
 
 pub renumbered-Same : (g : EventGraph) (f : ℕ → ℕ) (vertices : List EventVertex) (Live : ℕ → Type 0) → Renumbering g f vertices Live → Same g (with_mapped g f vertices)
 renumbered-Same g f vertices Live ok = mapped-Same g f vertices Live Live (record {
-  apart = λ t told k live. ok.apart k t live told;
+  apart = λ t is_target k live. ok.apart k t live is_target;
   does = λ k live. placed_does f (vertex_at g k) (slice_index_or vertices (f k) no_vertex) (ok.placed k live);
   names = λ k live. sym (ap (λ (v : EventVertex). v.name) (ok.placed k live));
   closed = λ k live. every-map (λ (e : EventEdge). Live e.target) (λ (e : EventEdge). LeadsToMapped Live Live e.kind e.target) (λ e there. leads_live Live e.kind e.target there) (vertex_at g k).edges (ok.closed k live);
