@@ -37,6 +37,6 @@ module _ {S : Type 0} {adds : S → S → List ℕ → Type 0} (both : Both adds
   one_more_put text {s} {t} {u} ys more y is so_far put = subst (adds s u) (rw is (flat_map_more text [] ys y)) (two so_far put)
 
   -- a text for each element, each after a comma, after one more
-  pub one_more_behind_comma : {Y : Type 0} (text : Y → List ℕ) {s t u v : S} (ys more : List Y) (y : Y) → more ≡ ys ++ y ∷ [] → adds s t (after_commas (map text ys)) → adds t u (codes ", ") → adds u v (text y) → adds s v (after_commas (map text more))
-  one_more_behind_comma text ys more y is so_far comma put =
+  pub one_more_after_comma : {Y : Type 0} (text : Y → List ℕ) {s t u v : S} (ys more : List Y) (y : Y) → more ≡ ys ++ y ∷ [] → adds s t (after_commas (map text ys)) → adds t u (codes ", ") → adds u v (text y) → adds s v (after_commas (map text more))
+  one_more_after_comma text ys more y is so_far comma put =
       one_more_put (λ (t : List ℕ). codes ", " ++ t) (map text ys) (map text more) (text y) (rw is (map_push text ys y)) so_far (two comma put)

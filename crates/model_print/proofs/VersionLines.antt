@@ -1,27 +1,22 @@
 -- Whether the text has the line of the version where an edge or a vertex is left out.
-use Rattle.std.proofs.Common.{◌≡◌, ℕ, zero, suc, ◌<◌, Bool, true, false, ◌||◌, List, [], ◌∷◌, ◌++◌, map, length, take, drop, slice_get, nat_lt, refl, sym, ◌∙◌, ap, ap₂}
+use Rattle.std.proofs.Common.{◌≡◌, ℕ, zero, suc, ◌<◌, Bool, true, false, ◌||◌, List, [], ◌∷◌, ◌++◌, map, take, drop, slice_get, refl, sym, ◌∙◌, ap, ap₂}
 use Rattle.std.proofs.lemmas.List.{append_cancel_left, map-append}
 use Rattle.std.proofs.lemmas.List.Folds.{list_any-append}
 use Rattle.std.specs.Prelude.{codes}
 use Rattle.std.specs.List.{flat_map, list_any, remove}
 use Rattle.std.specs.Option.{option_map_or}
 use Rattle.std.proofs.Math.Bool.{or_comm}
-use Rattle.sig_base.specs.declared.limits.TheConstants.{PARAMETERS_MAX_VERSION_1}
-use Rattle.model_core.specs.EventGraph.{EventGraph, EventVertex, has_drawn_delay}
+use Rattle.model_core.specs.EventGraph.{EventGraph}
 use Rattle.model_core.specs.Text.Canonical.{variable_line, table_line, watched_name, watch_names_line, version_line}
-use Rattle.model_core.specs.Text.VersionNeeded.{is_large_array, has_many_targets, has_later_parts, needs_version_two}
-use Rattle.model_core.specs.Rules.Drop.{edge_renumbered, vertex_renumbered}
+use Rattle.model_core.specs.Text.VersionNeeded.{is_large_array, has_later_parts, needs_version_two}
+use Rattle.model_core.specs.Rules.Drop.{vertex_renumbered}
 use Rattle.model_core.specs.Rules.Fuse.{fused_place, fused}
 use Rattle.model_core.specs.Rules.Merge.{is_watched_vertex}
 use Rattle.model_core.specs.Rules.PlacedEdges.{with_place}
 use Rattle.model_core.specs.Rules.Prune.{without_edge, pruned}
 use Rattle.model_core.proofs.FusedText.{same_declarations}
 use Rattle.model_core.proofs.Images.{map-remove}
-
--- a test that changes of elements leave as it is
-any_mapped : {A : Type 0} (test : A → Bool) (f : A → A) → ((x : A) → test (f x) ≡ test x) → (xs : List A) → list_any test (map f xs) ≡ list_any test xs
-any_mapped test f same [] = refl
-any_mapped test f same (x ∷ xs) = ap₂ (λ b c. b || c) (same x) (any_mapped test f same xs)
+use Rattle.model_core.proofs.VersionParts.{list_any-map, has_later_parts-renumbered}
 
 together : (a b c : Bool) → ((a || b) || c) ≡ (a || (b || c))
 together true b c = refl
@@ -39,7 +34,7 @@ module _ {X Y : Type 0} (view : X → Y) (test : Y → Bool) (xs : List X) (k j 
   any_before b so is = so ∙ ap (λ a. a || list_any test (map view (drop j xs))) (sym so ∙ is) ∙ apart
 
   pub any_after_place : (b c : Bool) → b ≡ false → b ≡ list_any test (map view (take k xs)) → c ≡ list_any test (map view (drop j xs)) → c ≡ list_any test (remove (map view xs) k)
-  any_after_place b c so before behind = ap₂ (λ a d. a || d) (sym so ∙ before) behind ∙ apart
+  any_after_place b c so before after = ap₂ (λ a d. a || d) (sym so ∙ before) after ∙ apart
 
 -- all but the one at a place, and then that one changed
 any_changed : {A : Type 0} (test : A → Bool) (f : A → A) (k : ℕ) (xs : List A) → (list_any test (remove xs k) || option_map_or (λ x. test (f x)) (slice_get xs k) false) ≡ list_any test (with_place f k xs)
@@ -59,14 +54,10 @@ module _ (g : EventGraph) (vertex edge : ℕ) where
   needed_pruned_before b so is = so ∙ ap (λ a. a || option_map_or (λ v. has_later_parts (without_edge edge v)) (slice_get g.vertices vertex) false) (sym so ∙ is) ∙ pruned_apart
 
   pub needed_pruned_after : (b c : Bool) → b ≡ false → b ≡ (list_any is_large_array g.variables || list_any has_later_parts (remove g.vertices vertex)) → c ≡ option_map_or (λ v. has_later_parts (without_edge edge v)) (slice_get g.vertices vertex) false → c ≡ needs_version_two (pruned g vertex edge)
-  needed_pruned_after b c so before behind = ap₂ (λ a d. a || d) (sym so ∙ before) behind ∙ pruned_apart
-
--- edges that lead elsewhere have the delays that they had
-later_renumbered : (f : ℕ → ℕ) (v : EventVertex) → has_later_parts (vertex_renumbered f v) ≡ has_later_parts v
-later_renumbered f v = ap (λ b. nat_lt PARAMETERS_MAX_VERSION_1 (length v.parameters) || list_any has_many_targets v.changes || b) (any_mapped has_drawn_delay (edge_renumbered f) (λ e. refl) v.edges)
+  needed_pruned_after b c so before after = ap₂ (λ a d. a || d) (sym so ∙ before) after ∙ pruned_apart
 
 pub needed_fused : (g : EventGraph) (keep gone : ℕ) → (list_any is_large_array g.variables || list_any has_later_parts (remove g.vertices gone)) ≡ needs_version_two (fused g keep gone)
-needed_fused g keep gone = ap (λ b. list_any is_large_array g.variables || b) (sym (any_mapped has_later_parts (vertex_renumbered (fused_place keep gone)) (later_renumbered (fused_place keep gone)) (remove g.vertices gone)))
+needed_fused g keep gone = ap (λ b. list_any is_large_array g.variables || b) (sym (list_any-map has_later_parts (vertex_renumbered (fused_place keep gone)) has_later_parts (has_later_parts-renumbered (fused_place keep gone)) (remove g.vertices gone)))
 
 -- what comes before the vertices
 abbrev pub declared : EventGraph → Bool → List (List ℕ) → List ℕ

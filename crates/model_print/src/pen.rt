@@ -74,11 +74,13 @@ impl Pen for Page {
     ghost use Rattle.std.specs.Prelude.{vec_capacity};
     ghost use Rattle.model_print.specs.Inner.Pens.{Fills, fills_nothing, fills_both};
 
-    ghost adds = { λ s t text. Fills s.bytes.items (vec_capacity s.bytes) t.bytes.items (vec_capacity t.bytes) text };
+    ghost adds = { λ s t text. Fills s.bytes.items (vec_capacity s.bytes) t.bytes.items
+        (vec_capacity t.bytes) text };
 
     ghost nothing = { λ s. fills_nothing s.bytes.items (vec_capacity s.bytes) };
 
-    ghost both = { λ s t u a b. fills_both s.bytes.items (vec_capacity s.bytes) t.bytes.items (vec_capacity t.bytes) u.bytes.items (vec_capacity u.bytes) a b };
+    ghost both = { λ s t u a b. fills_both s.bytes.items (vec_capacity s.bytes) t.bytes.items
+        (vec_capacity t.bytes) u.bytes.items (vec_capacity u.bytes) a b };
 
     fn put_bytes(&mut self, bytes: &[u8]) {
         if bytes.len() <= self.bytes.capacity() - self.bytes.len() {
@@ -97,11 +99,13 @@ pub struct Growing {
 impl Pen for Growing {
     ghost use Rattle.model_print.specs.Inner.Pens.{Grows, grows_nothing, grows_both};
 
-    ghost adds = { λ s t text. Grows s.bytes.items s.lacks_memory t.bytes.items t.lacks_memory text };
+    ghost adds = { λ s t text. Grows s.bytes.items s.lacks_memory t.bytes.items
+        t.lacks_memory text };
 
     ghost nothing = { λ s. grows_nothing s.bytes.items s.lacks_memory };
 
-    ghost both = { λ s t u a b. grows_both s.bytes.items s.lacks_memory t.bytes.items t.lacks_memory u.bytes.items u.lacks_memory a b };
+    ghost both = { λ s t u a b. grows_both s.bytes.items s.lacks_memory t.bytes.items
+        t.lacks_memory u.bytes.items u.lacks_memory a b };
 
     fn put_bytes(&mut self, bytes: &[u8]) {
         if !self.lacks_memory {
