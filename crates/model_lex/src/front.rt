@@ -19,7 +19,7 @@ use sig_base::NoMemory;
 #[inline(always)]
 pub(crate) fn pass_over(list: &mut Vec<Piece>, text: &[u8], at: usize) -> Result<usize, LexError>
     requires inside { at < length text.now }
-    requires few { length text.now < 2 ^ 32 }
+    requires short_text { length text.now < 2 ^ 32 }
     ensures passes { IfOk result
         (λ to. Passes at (front_at (drop at text.now)) (map (piece_of text.now) list.old.items)
         (map (piece_of text.now) list.new.items) to) }

@@ -34,12 +34,12 @@ pair c = sym (c.symbol_front.ensures ∙ class-front _ classes.Pair (has_bytes c
 pub overflow_add-result-in-Comment : goal.overflow_add-result-in-Comment
 overflow_add-result-in-Comment c =
     let room = room_from c.args.text.now c.args.at (Between c.comment_length.result) c.requires.inside (comment (goal.at.overflow_add-result-in-Comment c).After-comment_length) in
-    let few = c.requires.few in omega (arith, room)
+    let short = c.requires.short_text in omega (arith, room)
 
 pub add-requires-clause-inside : goal.add-requires-clause-inside
 add-requires-clause-inside c =
     let room = room_from c.args.text.now c.args.at _ c.requires.inside (name (goal.at.add-requires-clause-inside c).After-word_length) in
-    let few = c.requires.few in omega (arith, room)
+    let short = c.requires.short_text in omega (arith, room)
 
 pub word_length-requires : goal.word_length-requires
 word_length-requires c = word_byte_first (slice_index (bytes_from c.args.text.now c.args.at) 0) classes.Name (sym c.in-Name.is ∙ c.class_of.ensures) refl
@@ -56,12 +56,12 @@ word_kind-requires c = rw c.word_length-length.ensures (word_begins _ (has_bytes
 pub add-requires-in-Digit-clause-inside : goal.add-requires-in-Digit-clause-inside
 add-requires-in-Digit-clause-inside c =
     let room = room_from c.args.text.now c.args.at _ c.requires.inside (number (goal.at.add-requires-in-Digit-clause-inside c).After-digits_length-length) in
-    let few = c.requires.few in omega (arith, room)
+    let short = c.requires.short_text in omega (arith, room)
 
 pub add-requires-in-Some-clause-inside : goal.add-requires-in-Some-clause-inside
 add-requires-in-Some-clause-inside c =
     let room = room_from c.args.text.now c.args.at _ c.requires.inside (pair (goal.at.add-requires-in-Some-clause-inside c).After-symbol_front ∙ ap symbol_as_front c.in-Some.is) in
-    let few = c.requires.few in omega (arith, room)
+    let short = c.requires.short_text in omega (arith, room)
 
 pub returns-in-Blank-clause-passes : goal.returns-in-Blank-clause-passes
 returns-in-Blank-clause-passes c = passes_between c.args.text.now c.args.at 1 c.args.list.now.items (blank (goal.at.returns-in-Blank-clause-passes c).In-Blank)
