@@ -33,7 +33,7 @@ abbrev pub Delivers : {K : Type 0} → (K → Outlet) → Answer → Result Deli
 Delivers seen (Given end bytes) (Ok (said.Gave other)) o p = (other ≡ end) × Finishes bytes (seen o) (seen p)
 Delivers seen (Given end bytes) (Err failures.WriteFault) o p = BreaksOff bytes (seen o) (seen p)
 Delivers seen (Given end bytes) (Err failures.NoMemory) o p = StopsShort bytes (seen o) (seen p)
-Delivers seen (Refused why line) (Ok (said.Refused other told)) o p = (other ≡ why) × (told ≡ line) × (p ≡ o)
+Delivers seen (Refused why line) (Ok (said.Refused other shown)) o p = (other ≡ why) × (shown ≡ line) × (p ≡ o)
 Delivers seen answer result o p = ⊥
 
 -- An answer of which P holds is delivered. Memory may be refused after a front of it where the last fact holds.

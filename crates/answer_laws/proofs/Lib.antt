@@ -3,3 +3,4 @@ mod OneAnswer
 mod TextsApart
 mod TwoModels
 mod WhatIsRefused
+pub mod SteadyDevices

@@ -16,7 +16,7 @@ use Rattle.answer_delivery.specs.AnswerForms.{refused, too_long}
 use Rattle.job_answers.specs.AnswerLaws.{DocumentParts, SavedParts, MayBeAsked, KeepsAnswerLaws}
 use Rattle.job_answers.specs.Answers.{AnswersModel, AnswersDocument, AnswersSaved, IsRefused, Responds, IsWithin, IsOver, Answers}
 use Rattle.answer_delivery.specs.Complaints.{IsComplaint, message_of, byte_line}
-use Rattle.job_answers.specs.Complained.{HasComplaint, HasDocumentComplaint, HasSavedComplaint}
+use Rattle.job_answers.specs.TextComplaints.{HasComplaint, HasDocumentComplaint, HasSavedComplaint}
 use Rattle.job_answers.specs.DocumentComplaints.{IsDocumentComplaint}
 use Rattle.job_answers.specs.SavedComplaints.{IsSavedComplaint}
 use Rattle.job_answers.specs.SavedReading.{ReadsSaved}
@@ -54,13 +54,13 @@ within_or_over (Some limit) text = elim (cases_lt limit (length text)) [ inl ove
 one_refusal : (IsSo : Complaint → ℕ → Type 0) → ((c d : Complaint) (i j : ℕ) → IsSo c i → IsSo d j → (c ≡ d) × (i ≡ j)) → (a b : Answer) → IsRefused IsSo a → IsRefused IsSo b → a ≡ b
 one_refusal IsSo one a b p q =
     let (what, at) = one p.what q.what p.at q.at p.complaint q.complaint in
-    p.told ∙ ap₂ (λ i c. refused (byte_line i (message_of c))) at what ∙ sym q.told
+    p.refuses ∙ ap₂ (λ i c. refused (byte_line i (message_of c))) at what ∙ sym q.refuses
 
 module _ (complaints : ComplaintLaws) (documents : DocumentLaws) (saved : SavedLaws) (text : List ℕ) where
   -- ---- there is one
 
   refusal : (IsSo : Complaint → ℕ → Type 0) (what : Complaint) (at : ℕ) → IsSo what at → IsRefused IsSo (refused (byte_line at (message_of what)))
-  refusal IsSo what at is = record { what = what; at = at; complaint = is; told = refl }
+  refusal IsSo what at is = record { what = what; at = at; complaint = is; refuses = refl }
 
   text_answered : (reading : Reading) → KeepsAnswerLaws reading → MayBeAsked reading → IsWithin (limit_of reading) text → (a : Answer) × Responds reading text a
   text_answered (readings.Model job) laws asked within = by (complaints.some text within)
@@ -74,12 +74,12 @@ module _ (complaints : ComplaintLaws) (documents : DocumentLaws) (saved : SavedL
       by (inl c) = (_, inl (refusal (IsDocumentComplaint text) c.0 c.1 c.2))
       by (inr (g, applications, h, reads)) =
           let w = laws.exists (g, applications, h) tt in
-          (w.0, inr (record { original = g; applications = applications; reduced = h; reads = reads; told = w.1 }))
+          (w.0, inr (g, applications, h, reads, w.1))
   text_answered (readings.Saved job) laws asked within = by (saved.some text within)
     where
       by : HasSavedComplaint text ⊎ ((g : EventGraph) × (s : SavedRun) × ReadsSaved text g s) → (a : Answer) × Responds (readings.Saved job) text a
       by (inl c) = (_, inl (refusal (IsSavedComplaint text) c.0 c.1 c.2))
-      by (inr (g, s, reads)) = let w = laws.exists (g, s) tt in (w.0, inr (record { model = g; run = s; reads = reads; told = w.1 }))
+      by (inr (g, s, reads)) = let w = laws.exists (g, s) tt in (w.0, inr (g, s, reads, w.1))
   text_answered (readings.Nothing job) laws asked within = laws.exists tt asked
 
   answered : (reading : Reading) → KeepsAnswerLaws reading → MayBeAsked reading → IsWithin (limit_of reading) text ⊎ IsOver (limit_of reading) text → (a : Answer) × Answers reading text a
@@ -98,19 +98,19 @@ module _ (complaints : ComplaintLaws) (documents : DocumentLaws) (saved : SavedL
     one_response (readings.Model job) laws a b (inr x) (inl y) = absurd (complaints.none text y.what y.at x.0 y.complaint x.1)
     one_response (readings.Model job) laws a b (inr x) (inr y) = laws.one x.0 a b x.2 (subst (λ (g : EventGraph). AnswersModel job g b) (one text y.0 x.0 y.1 x.1) y.2)
     one_response (readings.Document job) laws a b (inl x) (inl y) = one_refusal (IsDocumentComplaint text) (documents.one text) a b x y
-    one_response (readings.Document job) laws a b (inl x) (inr y) = absurd (documents.none text x.what x.at y.original y.applications y.reduced x.complaint y.reads)
-    one_response (readings.Document job) laws a b (inr x) (inl y) = absurd (documents.none text y.what y.at x.original x.applications x.reduced y.complaint x.reads)
+    one_response (readings.Document job) laws a b (inl x) (inr y) = absurd (documents.none text x.what x.at y.0 y.1 y.2 x.complaint y.3)
+    one_response (readings.Document job) laws a b (inr x) (inl y) = absurd (documents.none text y.what y.at x.0 x.1 x.2 y.complaint x.3)
     one_response (readings.Document job) laws a b (inr x) (inr y) =
-        let same = documents.one_reading text y.original y.reduced x.original x.reduced y.applications x.applications y.reads x.reads in
-        let parts : ◌≡◌ {A = DocumentParts} (y.original, y.applications, y.reduced) (x.original, x.applications, x.reduced) = λ i. (same.0 i, same.1 i, same.2 i) in
-        laws.one (x.original, x.applications, x.reduced) a b x.told (subst (λ (d : DocumentParts). AnswersDocument job d.0 d.1 d.2 b) parts y.told)
+        let same = documents.one_reading text y.0 y.2 x.0 x.2 y.1 x.1 y.3 x.3 in
+        let parts : ◌≡◌ {A = DocumentParts} (y.0, y.1, y.2) (x.0, x.1, x.2) = λ i. (same.0 i, same.1 i, same.2 i) in
+        laws.one (x.0, x.1, x.2) a b x.4 (subst (λ (d : DocumentParts). AnswersDocument job d.0 d.1 d.2 b) parts y.4)
     one_response (readings.Saved job) laws a b (inl x) (inl y) = one_refusal (IsSavedComplaint text) (saved.one text) a b x y
-    one_response (readings.Saved job) laws a b (inl x) (inr y) = absurd (saved.none text x.what x.at y.model y.run x.complaint y.reads)
-    one_response (readings.Saved job) laws a b (inr x) (inl y) = absurd (saved.none text y.what y.at x.model x.run y.complaint x.reads)
+    one_response (readings.Saved job) laws a b (inl x) (inr y) = absurd (saved.none text x.what x.at y.0 y.1 x.complaint y.2)
+    one_response (readings.Saved job) laws a b (inr x) (inl y) = absurd (saved.none text y.what y.at x.0 x.1 y.complaint x.2)
     one_response (readings.Saved job) laws a b (inr x) (inr y) =
-        let same = saved.one_reading text y.model x.model y.run x.run y.reads x.reads in
-        let parts : ◌≡◌ {A = SavedParts} (y.model, y.run) (x.model, x.run) = λ i. (same.0 i, same.1 i) in
-        laws.one (x.model, x.run) a b x.told (subst (λ (d : SavedParts). AnswersSaved job d.0 d.1 b) parts y.told)
+        let same = saved.one_reading text y.0 x.0 y.1 x.1 y.2 x.2 in
+        let parts : ◌≡◌ {A = SavedParts} (y.0, y.1) (x.0, x.1) = λ i. (same.0 i, same.1 i) in
+        laws.one (x.0, x.1) a b x.3 (subst (λ (d : SavedParts). AnswersSaved job d.0 d.1 b) parts y.3)
     one_response (readings.Nothing job) laws a b x y = laws.one tt a b x y
 
     pub one_answer : (reading : Reading) → KeepsAnswerLaws reading → (a b : Answer) → Answers reading text a → Answers reading text b → a ≡ b

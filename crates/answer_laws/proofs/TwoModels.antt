@@ -24,9 +24,9 @@ module _ (facts : ModelFacts) where
 
   -- where both inputs give this text, each output grew by what its call promises
   pub shown_by_calls : (left again : Option (List ℕ)) (text : List ℕ) (Prints Reduces : List ℕ → Type 0) → left ≡ Some text → again ≡ Some text
-      → IfSome left (λ told. (a : List ℕ) × PrintsModel told a × Prints a) → IfSome again (λ told. (b : List ℕ) × KeepsMeaning told b × Reduces b)
+      → IfSome left (λ bytes. (a : List ℕ) × PrintsModel bytes a × Prints a) → IfSome again (λ bytes. (b : List ℕ) × KeepsMeaning bytes b × Reduces b)
       → (a b : List ℕ) × ShowTheSame a b × Prints a × Reduces b
   shown_by_calls left again text Prints Reduces first second print reduce =
-      let (a, prints, grown) = subst (λ (o : Option (List ℕ)). IfSome o (λ told. (a : List ℕ) × PrintsModel told a × Prints a)) first print in
-      let (b, reduces, grown_too) = subst (λ (o : Option (List ℕ)). IfSome o (λ told. (b : List ℕ) × KeepsMeaning told b × Reduces b)) second reduce in
+      let (a, prints, grown) = subst (λ (o : Option (List ℕ)). IfSome o (λ bytes. (a : List ℕ) × PrintsModel bytes a × Prints a)) first print in
+      let (b, reduces, grown_too) = subst (λ (o : Option (List ℕ)). IfSome o (λ bytes. (b : List ℕ) × KeepsMeaning bytes b × Reduces b)) second reduce in
       (a, b, shown text a b prints reduces, grown, grown_too)

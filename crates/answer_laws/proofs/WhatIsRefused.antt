@@ -14,7 +14,7 @@ use Rattle.answer_delivery.specs.declared.status.Status.TheVariants as statuses
 use Rattle.answer_delivery.specs.AnswerForms.{refused, too_long}
 use Rattle.job_answers.specs.AnswerLaws.{KeepsAnswerLaws}
 use Rattle.job_answers.specs.Answers.{Responds, IsOver, Answers}
-use Rattle.job_answers.specs.Complained.{HasComplaint, HasDocumentComplaint, HasSavedComplaint}
+use Rattle.job_answers.specs.TextComplaints.{HasComplaint, HasDocumentComplaint, HasSavedComplaint}
 use Rattle.job_answers.specs.SavedReading.{ReadsSaved}
 use Rattle.answer_delivery.specs.Statuses.{status_of_answer}
 use Rattle.answer_laws.specs.Unreadable.{IsNoModel, IsNoDocument, IsNoSavedDocument, IsUnreadable}
@@ -61,14 +61,14 @@ module _ (complaints : ComplaintLaws) (documents : DocumentLaws) (saved : SavedL
   -- ---- the answer
 
   response_refused : (reading : Reading) → KeepsAnswerLaws reading → (a : Answer) → Responds reading text a → IsRefusedStatus a ↔ IsUnreadable reading text
-  response_refused (readings.Model job) laws a (inl h) = (λ e g reads. complaints.none text h.what h.at g h.complaint reads, λ none. ap status_of_answer h.told)
+  response_refused (readings.Model job) laws a (inl h) = (λ e g reads. complaints.none text h.what h.at g h.complaint reads, λ none. ap status_of_answer h.refuses)
   response_refused (readings.Model job) laws a (inr h) = (λ e. absurd (laws.unrefused h.0 a h.2 e), λ none. absurd (none h.0 h.1))
   response_refused (readings.Document job) laws a (inl h) =
-      (λ e original applications reduced reads. documents.none text h.what h.at original applications reduced h.complaint reads, λ none. ap status_of_answer h.told)
+      (λ e original applications reduced reads. documents.none text h.what h.at original applications reduced h.complaint reads, λ none. ap status_of_answer h.refuses)
   response_refused (readings.Document job) laws a (inr h) =
-      (λ e. absurd (laws.unrefused (h.original, h.applications, h.reduced) a h.told e), λ none. absurd (none h.original h.applications h.reduced h.reads))
-  response_refused (readings.Saved job) laws a (inl h) = (λ e g s reads. saved.none text h.what h.at g s h.complaint reads, λ none. ap status_of_answer h.told)
-  response_refused (readings.Saved job) laws a (inr h) = (λ e. absurd (laws.unrefused (h.model, h.run) a h.told e), λ none. absurd (none h.model h.run h.reads))
+      (λ e. absurd (laws.unrefused (h.0, h.1, h.2) a h.4 e), λ none. absurd (none h.0 h.1 h.2 h.3))
+  response_refused (readings.Saved job) laws a (inl h) = (λ e g s reads. saved.none text h.what h.at g s h.complaint reads, λ none. ap status_of_answer h.refuses)
+  response_refused (readings.Saved job) laws a (inr h) = (λ e. absurd (laws.unrefused (h.0, h.1) a h.3 e), λ none. absurd (none h.0 h.1 h.2))
   response_refused (readings.Nothing job) laws a h = (λ e. absurd (laws.unrefused tt a h e), λ none. absurd none)
 
   pub refused_is_unreadable : (reading : Reading) → KeepsAnswerLaws reading → (a : Answer) → Answers reading text a → IsRefusedStatus a ↔ IsUnreadable reading text

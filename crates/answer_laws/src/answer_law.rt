@@ -13,7 +13,7 @@ ghost use Rattle.answer_delivery.specs.declared.status.Status.{Status};
 ghost use Rattle.answer_delivery.specs.AnswerForms.{refused, too_long};
 ghost use Rattle.job_answers.specs.AnswerLaws.{MayBeAsked};
 ghost use Rattle.job_answers.specs.Answers.{IsOver, Answers};
-ghost use Rattle.job_answers.specs.Complained.{HasComplaint, HasDocumentComplaint, HasSavedComplaint};
+ghost use Rattle.job_answers.specs.TextComplaints.{HasComplaint, HasDocumentComplaint, HasSavedComplaint};
 ghost use Rattle.answer_delivery.specs.Statuses.{status_of_answer};
 ghost use Rattle.answer_laws.specs.Unreadable.{IsNoModel, IsNoDocument, IsNoSavedDocument, IsUnreadable};
 

@@ -15,7 +15,7 @@ use Rattle.model_core.specs.Static.Reading.{Reads}
 use Rattle.answer_delivery.specs.declared.complaint.Complaint.{Complaint}
 use Rattle.answer_delivery.specs.declared.complaint.Complaint.TheVariants as complaints
 use Rattle.answer_delivery.specs.Complaints.{IsComplaint}
-use Rattle.job_answers.specs.Complained.{HasComplaint}
+use Rattle.job_answers.specs.TextComplaints.{HasComplaint}
 use Rattle.job_answers.specs.Inner.TextFacts.{TextFacts}
 
 -- a text has one list of tokens
@@ -49,7 +49,7 @@ module _ (laws : TextFacts) (text : List ℕ) where
   one_static : (m n : WrittenModel) (j k : StaticKind) (a b : ℕ) → SpellsText text m → SpellsText text n → IsFirstFault m j a → IsFirstFault n k b → SameComplaint (complaints.Static j) a (complaints.Static k) b
   one_static m n j k a b s t p q =
       let same = laws.one_model text n m t s in
-      let one = sym (laws.told_back m (record { at = a; kind = j }) p) ∙ laws.told_back m (record { at = b; kind = k }) (subst (λ w. IsFirstFault w k b) same q) in
+      let one = sym (laws.first_is_fault m (record { at = a; kind = j }) p) ∙ laws.first_is_fault m (record { at = b; kind = k }) (subst (λ w. IsFirstFault w k b) same q) in
       let fault : StaticFault = record { at = a; kind = j } in
       let other : StaticFault = record { at = b; kind = k } in
       let is : fault ≡ other = cc in
@@ -85,7 +85,7 @@ module _ (laws : TextFacts) (text : List ℕ) where
   no_complaint complaints.Unexpected i g p r = spelled_wrong r.model p.0 i r.spells p.1 p.3
   no_complaint (complaints.Static k) i g p r =
       let same = laws.one_model text p.0 r.model p.1 r.spells in
-      let told = laws.told_back r.model (record { at = i; kind = k }) (subst (λ w. IsFirstFault w k i) same p.2) in
+      let first = laws.first_is_fault r.model (record { at = i; kind = k }) (subst (λ w. IsFirstFault w k i) same p.2) in
       let none = laws.accepted_has_no_fault r.model (g, r.accepted) in
       cc
   no_complaint complaints.BadSnapshot i g p r = absurd p
@@ -94,7 +94,7 @@ module _ (laws : TextFacts) (text : List ℕ) where
 
   by_fault : length text ≤ TEXT_MAX → (m : WrittenModel) → SpellsText text m → (o : Option StaticFault) → first_fault m ≡ o → HasComplaint text ⊎ ((g : EventGraph) × Reads text g)
   by_fault within m s None e = let (g, a) = laws.accepted m e in inr (g, record { fits = within; model = m; spells = s; accepted = a })
-  by_fault within m s (Some f) e = inl (complaints.Static f.kind, f.at, (m, s, laws.told m f e))
+  by_fault within m s (Some f) e = inl (complaints.Static f.kind, f.at, (m, s, laws.fault_is_first m f e))
 
   by_reading : length text ≤ TEXT_MAX → (tokens : List Lexeme) → tokens_of text ≡ Ok tokens → too_deep_at OPENINGS_MAX tokens ≡ None → ((m : WrittenModel) × IsText tokens m) ⊎ ((at : ℕ) × IsUnexpectedAt text tokens at) → HasComplaint text ⊎ ((g : EventGraph) × Reads text g)
   by_reading within tokens e none (inl (m, is)) = by_fault within m (record { tokens = tokens; cut = e; derived = is; few_openings = laws.none_deep tokens none }) (first_fault m) refl

@@ -16,8 +16,8 @@ use Rattle.text_laws.proofs.Formats.OneTokenDecides.{certificate-fine}
 use Rattle.text_laws.proofs.Formats.TextLaws.{one_value, spelled_or_wrong, one_wrong_place}
 use Rattle.answer_delivery.specs.declared.complaint.Complaint.{Complaint}
 use Rattle.answer_delivery.specs.declared.complaint.Complaint.TheVariants as complaints
-use Rattle.job_answers.specs.DocumentComplaints.{IsCertificateComplaint, IsGrammarComplaint, in_first, in_second, in_certificate, IsDocumentComplaint, of_bytes, of_tokens, of_first, of_second}
-use Rattle.job_answers.specs.Complained.{HasDocumentComplaint}
+use Rattle.job_answers.specs.DocumentComplaints.{IsGrammarComplaint, in_first, in_second, in_certificate, IsDocumentComplaint, of_bytes, of_tokens, of_first, of_second}
+use Rattle.job_answers.specs.TextComplaints.{HasDocumentComplaint}
 use Rattle.job_answers.proofs.FaultLaws.{FaultLaws}
 use Rattle.job_answers.proofs.FrontOutcome.{Computed, and_then, front_outcome, front_begun, front_complained, FrontFault, FrontModel, front_or_fault, unless_fault, one_graph}
 
@@ -45,12 +45,8 @@ no_certificate : (text : List ℕ) (tokens : List Lexeme) (at : ℕ) → IsNoCer
 no_certificate text tokens at wrong (inl spelled) = absurd (wrong.none spelled.0 spelled.1)
 no_certificate text tokens at wrong (inr other) = ap (λ k. Err (complaints.Unexpected, k)) (one_wrong_place certificate_format text tokens other.0 at other.1 wrong)
 
-certificate_complained : (text : List ℕ) (tokens : List Lexeme) (what : Complaint) (at : ℕ) → IsCertificateComplaint text tokens what at → certificate_outcome text tokens ≡ Err (what, at)
-certificate_complained text tokens complaints.Unexpected at h = no_certificate text tokens at h (certificate_decided text tokens)
-certificate_complained text tokens complaints.TooDeep at h = absurd h
-certificate_complained text tokens complaints.BadByte at h = absurd h
-certificate_complained text tokens (complaints.Static kind) at h = absurd h
-certificate_complained text tokens complaints.BadSnapshot at h = absurd h
+certificate_complained : (text : List ℕ) (tokens : List Lexeme) (what : Complaint) (at : ℕ) → what ≡ complaints.Unexpected → IsNoCertificateAt text tokens at → certificate_outcome text tokens ≡ Err (what, at)
+certificate_complained text tokens what at is wrong = no_certificate text tokens at wrong (certificate_decided text tokens) ∙ ap (λ w. Err (w, at)) (sym is)
 
 -- ---- the outcome for all tokens
 
@@ -70,9 +66,9 @@ grammar_complained : (text : List ℕ) (tokens : List Lexeme) (what : Complaint)
 grammar_complained text tokens what at (in_first h) = ap (and_then (behind_first text)) (front_complained text tokens what at h)
 grammar_complained text tokens what at (in_second first left b h) =
     ap (and_then (behind_first text)) (front_begun text tokens first left b) ∙ ap (and_then (behind_second text first)) (front_complained text left what at h)
-grammar_complained text tokens what at (in_certificate first second left last b d h) =
+grammar_complained text tokens what at (in_certificate first second left last b d is wrong) =
     ap (and_then (behind_first text)) (front_begun text tokens first left b) ∙ ap (and_then (behind_second text first)) (front_begun text left second last d)
-    ∙ ap (and_then (λ applications. Ok (first, applications, second))) (certificate_complained text last what at h)
+    ∙ ap (and_then (λ applications. Ok (first, applications, second))) (certificate_complained text last what at is wrong)
 
 -- ---- the outcome for the document
 
@@ -96,11 +92,11 @@ module _ (laws : FaultLaws) (text : List ℕ) where
   complaint_outcome : (what : Complaint) (at : ℕ) → IsDocumentComplaint text what at → document_outcome text ≡ Err (what, at)
   complaint_outcome what at (of_bytes is cut) = ap (cut_outcome text) cut ∙ ap (λ w. Err (w, at)) (sym is)
   complaint_outcome what at (of_tokens tokens cut h) = ap (cut_outcome text) cut ∙ ap (and_then static_outcome) (grammar_complained text tokens what at h)
-  complaint_outcome what at (of_first first second applications s kind is told) =
-      spelled_outcome text first second applications s ∙ ap (λ o. unless_fault o (unless_fault (first_fault second) (Ok (first, applications, second)))) ((laws.told first (record { at = at; kind = kind })).1 told) ∙ ap (λ w. Err (w, at)) (sym is)
-  complaint_outcome what at (of_second first second applications s g accepted kind is told) =
+  complaint_outcome what at (of_first first second applications s kind is fault) =
+      spelled_outcome text first second applications s ∙ ap (λ o. unless_fault o (unless_fault (first_fault second) (Ok (first, applications, second)))) ((laws.first_is_fault first (record { at = at; kind = kind })).1 fault) ∙ ap (λ w. Err (w, at)) (sym is)
+  complaint_outcome what at (of_second first second applications s g accepted kind is fault) =
       spelled_outcome text first second applications s ∙ ap (λ o. unless_fault o (unless_fault (first_fault second) (Ok (first, applications, second)))) ((laws.accepted first).1 (g, accepted))
-      ∙ ap (λ o. unless_fault o (Ok (first, applications, second))) ((laws.told second (record { at = at; kind = kind })).1 told) ∙ ap (λ w. Err (w, at)) (sym is)
+      ∙ ap (λ o. unless_fault o (Ok (first, applications, second))) ((laws.first_is_fault second (record { at = at; kind = kind })).1 fault) ∙ ap (λ w. Err (w, at)) (sym is)
 
   reads_outcome : (g : EventGraph) (applications : List RuleApplication) (h : EventGraph) → (r : ReadsDocument text g applications h) → document_outcome text ≡ Ok (r.first, applications, r.second)
   reads_outcome g applications h r =
@@ -139,16 +135,16 @@ module _ (laws : FaultLaws) (text : List ℕ) where
     by_second first second applications s g accepted None e =
         let (h, is) = (laws.accepted second).0 e in
         inr (g, applications, h, record { fits = within; first = first; second = second; spells = s; first_accepted = accepted; second_accepted = is })
-    by_second first second applications s g accepted (Some f) e = inl (complaints.Static f.kind, f.at, of_second first second applications s g accepted f.kind refl ((laws.told second f).0 e))
+    by_second first second applications s g accepted (Some f) e = inl (complaints.Static f.kind, f.at, of_second first second applications s g accepted f.kind refl ((laws.first_is_fault second f).0 e))
 
     by_first : (first second : WrittenModel) (applications : List RuleApplication) → SpellsDocument text first applications second → (o : Option StaticFault) → first_fault first ≡ o → DocumentOrComplaint
     by_first first second applications s None e = let (g, is) = (laws.accepted first).0 e in by_second first second applications s g is (first_fault second) refl
-    by_first first second applications s (Some f) e = inl (complaints.Static f.kind, f.at, of_first first second applications s f.kind refl ((laws.told first f).0 e))
+    by_first first second applications s (Some f) e = inl (complaints.Static f.kind, f.at, of_first first second applications s f.kind refl ((laws.first_is_fault first f).0 e))
 
     by_certificate : (tokens : List Lexeme) → tokens_of text ≡ Ok tokens → (a : FrontModel tokens) (b : FrontModel a.left) → CertificateDecision text b.left → DocumentOrComplaint
     by_certificate tokens cut a b (inl spelled) =
         by_first a.model b.model spelled.0 (record { tokens = tokens; cut = cut; behind_first = a.left; begins = a.begins; behind_second = b.left; goes_on = b.begins; ends = spelled.1 }) (first_fault a.model) refl
-    by_certificate tokens cut a b (inr wrong) = inl (complaints.Unexpected, wrong.0, of_tokens tokens cut (in_certificate a.model b.model a.left b.left a.begins b.begins wrong.1))
+    by_certificate tokens cut a b (inr wrong) = inl (complaints.Unexpected, wrong.0, of_tokens tokens cut (in_certificate a.model b.model a.left b.left a.begins b.begins refl wrong.1))
 
     by_second_front : (tokens : List Lexeme) → tokens_of text ≡ Ok tokens → (a : FrontModel tokens) → FrontModel a.left ⊎ FrontFault text a.left → DocumentOrComplaint
     by_second_front tokens cut a (inl b) = by_certificate tokens cut a b (certificate_decided text b.left)

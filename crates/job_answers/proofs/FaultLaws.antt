@@ -6,5 +6,5 @@ use Rattle.model_core.specs.Static.FaultOrder.{StaticFault}
 use Rattle.model_core.specs.Static.ModelFaults.{IsFirstFault, first_fault, Accepted}
 
 pub record FaultLaws : Type 0 where
-  pub told : (m : WrittenModel) (f : StaticFault) → first_fault m ≡ Some f ↔ IsFirstFault m f.kind f.at
+  pub first_is_fault : (m : WrittenModel) (f : StaticFault) → first_fault m ≡ Some f ↔ IsFirstFault m f.kind f.at
   pub accepted : (m : WrittenModel) → first_fault m ≡ None ↔ ((g : EventGraph) × Accepted m g)

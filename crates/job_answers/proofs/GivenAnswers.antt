@@ -1,14 +1,10 @@
 -- What holds of the forms of answers, and of answers that are done.
 use Rattle.std.proofs.Common.{◌≡◌, ◌⊎◌, inl, inr, ℕ, ◌<◌, List, [], ◌∷◌, ◌++◌, length, refl, sym, ap, subst, ◌∙◌, arith}
 use Rattle.std.proofs.lemmas.List.{length-append}
-use Rattle.answer_delivery.specs.declared.answer.Answer.TheVariants.{Given, Refused}
-use Rattle.answer_delivery.specs.declared.status.End.{End}
 use Rattle.answer_delivery.specs.declared.status.End.TheVariants as ends
-use Rattle.answer_delivery.specs.declared.status.Refusal.{Refusal}
 use Rattle.answer_delivery.specs.declared.status.Status.TheVariants as statuses
-use Rattle.answer_delivery.specs.AnswerForms.{done}
 use Rattle.job_answers.specs.AnswerLaws.{HasOneAnswer}
-use Rattle.answer_delivery.specs.Statuses.{status_of_end, status_of_answer}
+use Rattle.job_answers.proofs.AnswerTerms.{Given, Refused, End, Refusal, done, status_of_end, status_of_answer}
 
 pub given_is_no_refusal : {end : End} {bytes line : List ℕ} {why : Refusal} → Given end bytes ≡ Refused why line → ⊥
 given_is_no_refusal e = cc

@@ -5,6 +5,7 @@ use Rattle.std.specs.List.{AllByRecursion, flat_map, list_all}
 use Rattle.std.specs.Option.{option_map, option_map_or}
 use Rattle.std.proofs.lemmas.Bool.Decides.{nat_tests}
 use Rattle.std.proofs.lemmas.List.{length-map}
+use Rattle.sig_base.specs.declared.limits.TheConstants.{STOP_MAX, EVENTS_MAX}
 use Rattle.model_core.specs.EventGraph.{EventGraph, EventVertex, Variable}
 use Rattle.model_core.specs.Run.State.{cell_count, within, in_ranges}
 use Rattle.model_core.specs.Run.Step.{vertex_at}
@@ -56,23 +57,23 @@ one_to most n is = by (numbering.natural n) is
 
 -- ---- streams
 
-abbrev FewWords : List ℕ → Type 0
-FewWords taken = AllByRecursion (λ n. n ≤ 2 ^ 52) taken
+abbrev WordsWithin : List ℕ → Type 0
+WordsWithin taken = AllByRecursion (λ n. n ≤ 2 ^ 52) taken
 
-with_one : (taken : List ℕ) (i n : ℕ) → n ≤ 2 ^ 52 → FewWords taken → (length (slice_set taken i n) ≡ length taken) × FewWords (slice_set taken i n)
-with_one [] i n few all = (refl, all)
-with_one (k ∷ taken) zero n few all = (refl, (few, all.1))
-with_one (k ∷ taken) (suc i) n few all = let rest = with_one taken i n few all.1 in (ap suc rest.0, (all.0, rest.1))
+with_one : (taken : List ℕ) (i n : ℕ) → n ≤ 2 ^ 52 → WordsWithin taken → (length (slice_set taken i n) ≡ length taken) × WordsWithin (slice_set taken i n)
+with_one [] i n fits all = (refl, all)
+with_one (k ∷ taken) zero n fits all = (refl, (fits, all.1))
+with_one (k ∷ taken) (suc i) n fits all = let rest = with_one taken i n fits all.1 in (ap suc rest.0, (all.0, rest.1))
 
-with_all : (least : ℕ) (streams : List WrittenStream) (taken : List ℕ) → AllGood (stream_parts least streams) → FewWords taken → (length (with_taken streams taken) ≡ length taken) × FewWords (with_taken streams taken)
-with_all least [] taken good few = (refl, few)
-with_all least (s ∷ streams) taken good few =
+with_all : (least : ℕ) (streams : List WrittenStream) (taken : List ℕ) → AllGood (stream_parts least streams) → WordsWithin taken → (length (with_taken streams taken) ≡ length taken) × WordsWithin (with_taken streams taken)
+with_all least [] taken good fits = (refl, fits)
+with_all least (s ∷ streams) taken good fits =
     let words = one_to (2 ^ 52) s.words (and_second (is_at_most 63 s.stream && not (nat_lt (number_or_zero s.stream) least)) (from_one_to (2 ^ 52) s.words) good.0) in
-    let one = with_one taken (number_or_zero s.stream) (number_or_zero s.words) words few in
+    let one = with_one taken (number_or_zero s.stream) (number_or_zero s.words) words fits in
     let rest = with_all (suc (number_or_zero s.stream)) streams (slice_set taken (number_or_zero s.stream) (number_or_zero s.words)) good.1 one.1 in
     (rest.0 ∙ one.0, rest.1)
 
-none_taken : (n : ℕ) → FewWords (replicate n 0)
+none_taken : (n : ℕ) → WordsWithin (replicate n 0)
 none_taken zero = tt
 none_taken (suc n) = (omega arith, none_taken n)
 
@@ -149,8 +150,8 @@ enough_values n m e = by (nat_lt n m) refl e
 pub record GoodParts (g : EventGraph) (w : WrittenSnapshot) : Type 0 where
   pub seed : is_at_most (2 ^ 32 - 1) w.seed ≡ true
   pub seed_rest : is_at_most (2 ^ 32 - 1) w.seed_rest ≡ true
-  pub clock : is_at_most (2 ^ 48) w.clock ≡ true
-  pub events : is_at_most (2 ^ 40) w.events ≡ true
+  pub clock : is_at_most STOP_MAX w.clock ≡ true
+  pub events : is_at_most EVENTS_MAX w.events ≡ true
   pub streams : AllGood (stream_parts 0 w.streams)
   pub values : AllGood (value_parts g.variables w.values)
   pub noted : AllGood (noted_parts g w.noted)
@@ -189,8 +190,8 @@ good_run g w none =
     let taken = with_all 0 w.streams (replicate 64 0) parts.streams (none_taken 64) in
     record {
       seed = omega (arith, quotient, rest);
-      clock = at_most (2 ^ 48) w.clock parts.clock;
-      events = at_most (2 ^ 40) w.events parts.events;
+      clock = at_most STOP_MAX w.clock parts.clock;
+      events = at_most EVENTS_MAX w.events parts.events;
       streams = taken.0;
       words = taken.1;
       values = values_fit g.variables w.values parts.values parts.enough;
@@ -199,4 +200,4 @@ good_run g w none =
     }
 
 pub good_reading : (text : List ℕ) (g : EventGraph) (s : SavedRun) → ReadsSaved text g s → IsGood g s
-good_reading text g s reads = subst (IsGood g) reads.stands (good_run g reads.snapshot reads.good)
+good_reading text g s reads = subst (IsGood g) reads.means (good_run g reads.snapshot reads.good)

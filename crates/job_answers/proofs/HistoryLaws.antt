@@ -17,18 +17,12 @@ use Rattle.watch_trace.specs.declared.outcome.Outcome.TheVariants as outcomes
 use Rattle.watch_trace.specs.Tracing.{Tracing, moment_of}
 use Rattle.watch_trace.specs.Following.{outcome_of, run_look, Writes, WritesAll, StepsLead}
 use Rattle.run_laws.proofs.HistoryBytes.{history_has_bytes}
-use Rattle.answer_delivery.specs.declared.answer.Answer.TheVariants.{Given}
-use Rattle.answer_delivery.specs.declared.delivering.DeliveryOutcome.{DeliveryOutcome}
-use Rattle.answer_delivery.specs.declared.status.End.{End}
-use Rattle.answer_delivery.specs.declared.status.Failure.{Failure}
 use Rattle.answer_delivery.specs.declared.status.Failure.TheVariants as failures
 use Rattle.answer_delivery.specs.declared.status.Status.TheVariants as statuses
-use Rattle.answer_delivery.specs.FrontWritten.{GrowsByFront}
 use Rattle.job_answers.specs.RunAnswer.{end_of, answer_of_look, refused_or, ExceedsRoomFrom}
-use Rattle.answer_delivery.specs.Statuses.{status_of_answer}
-use Rattle.answer_delivery.specs.DeliverySteps.{Closed}
 use Rattle.job_answers.specs.Inner.WritingSteps.{StreamsBytes}
 use Rattle.job_answers.specs.Inner.RunSteps.{ending, DeliversHistory}
+use Rattle.job_answers.proofs.AnswerTerms.{Given, End, Failure, DeliveryOutcome, status_of_answer, GrowsByFront, Closed}
 use Rattle.job_answers.proofs.GivenAnswers.{given_is_no_refusal, some_bytes, end_unrefused}
 use Rattle.job_answers.proofs.Streaming.{closed, closed_in_memory, stream_fails, stopped_short}
 
@@ -53,17 +47,17 @@ a_front : (o p : Outlet) (n : ℕ) (bytes : List ℕ) → GrowsBy o.written p.wr
 a_front o p n bytes grows = elim (cases_lt (length bytes) n) [ inl long ↦ (length bytes, omega arith, subst (GrowsBy o.written p.written) (take_all n bytes (omega (arith, long)) ∙ sym (take-length bytes)) grows) | inr short ↦ (n, short, grows) ]
 
 -- how a job ends follows from the outcome of its run
-end_so : (s : RunStatus) → ending (outcome_of s) ≡ Ok (end_of s)
-end_so (Ended t) = refl
-end_so Stopped = refl
-end_so (Faulted t kind) = refl
-end_so Going = refl
+ending_of_outcome : (s : RunStatus) → ending (outcome_of s) ≡ Ok (end_of s)
+ending_of_outcome (Ended t) = refl
+ending_of_outcome Stopped = refl
+ending_of_outcome (Faulted t kind) = refl
+ending_of_outcome Going = refl
 
 module _ {K : Type 0} (sight : K → Outlet) (g : EventGraph) (until events : ℕ) (seen : Look) (o p : K) (Short : Type 0) where
   all_streamed : (outcome : Outcome) → WritesAll g until events seen outcome (sight o) (sight p)
       → StreamsBytes sight (end_of seen.standing) (history_text g until events seen) Short (ending outcome) o p
   all_streamed outcome h =
-      subst (λ (r : Result End Failure). StreamsBytes sight (end_of seen.standing) (history_text g until events seen) Short r o p) (sym (ap ending h.stands ∙ end_so seen.standing)) (refl, h.grows, h.unsettled, h.steady)
+      subst (λ (r : Result End Failure). StreamsBytes sight (end_of seen.standing) (history_text g until events seen) Short r o p) (sym (ap ending h.stands ∙ ending_of_outcome seen.standing)) (refl, h.grows, h.unsettled, h.steady)
 
   history_streamed : (outcome : Outcome) → Writes g until events seen outcome (sight o) (sight p)
       → (outcome ≡ outcomes.NoMemory → Short) → StreamsBytes sight (end_of seen.standing) (history_text g until events seen) Short (ending outcome) o p
@@ -129,8 +123,8 @@ module _ {K : Type 0} (sight : K → Outlet) (g : EventGraph) (until seed events
   })
 
   -- it is written, and the output is closed
-  pub history_told : (end : End) (r : Result DeliveryOutcome Failure) (o n p : K) → StreamsFrom sight g until seed events m room (Ok end) o n → Closed end r (sight n) (sight p) → DeliversHistory sight g until seed events m room r o p
-  history_told end r o n p h k = inl (record {
+  pub history_closed : (end : End) (r : Result DeliveryOutcome Failure) (o n p : K) → StreamsFrom sight g until seed events m room (Ok end) o n → Closed end r (sight n) (sight p) → DeliversHistory sight g until seed events m room r o p
+  history_closed end r o n p h k = inl (record {
     answer = answer_of_look g until events Seen;
     holds = refl;
     delivers = closed sight o n p (end_of Seen.standing) (history_text g until events Seen) h.1 (λ some. h.2) h.3 r (subst (λ (e : End). Closed e r (sight n) (sight p)) h.0 k);
@@ -140,10 +134,10 @@ module _ {K : Type 0} (sight : K → Outlet) (g : EventGraph) (until seed events
 -- ---- its laws
 
 -- a history has bytes, and what isn't refused is no refusal
-pub told_has_bytes : (g : EventGraph) (until events : ℕ) (refusal : Option (List ℕ)) (seen : Look) (end : End) (bytes : List ℕ) → Given end bytes ≡ refused_or refusal (answer_of_look g until events seen) → 0 < length bytes
-told_has_bytes g until events (Some line) seen end bytes h = absurd (given_is_no_refusal h)
-told_has_bytes g until events None seen end bytes h = some_bytes (history_has_bytes g until events seen) h
+pub look_has_bytes : (g : EventGraph) (until events : ℕ) (refusal : Option (List ℕ)) (seen : Look) (end : End) (bytes : List ℕ) → Given end bytes ≡ refused_or refusal (answer_of_look g until events seen) → 0 < length bytes
+look_has_bytes g until events (Some line) seen end bytes h = absurd (given_is_no_refusal h)
+look_has_bytes g until events None seen end bytes h = some_bytes (history_has_bytes g until events seen) h
 
-pub told_unrefused : (g : EventGraph) (until events : ℕ) (refusal : Option (List ℕ)) (seen : Look) → status_of_answer (refused_or refusal (answer_of_look g until events seen)) ≡ statuses.Refused → ⊥
-told_unrefused g until events None seen e = end_unrefused (end_of seen.standing) e
-told_unrefused g until events (Some line) seen e = cc
+pub look_unrefused : (g : EventGraph) (until events : ℕ) (refusal : Option (List ℕ)) (seen : Look) → status_of_answer (refused_or refusal (answer_of_look g until events seen)) ≡ statuses.Refused → ⊥
+look_unrefused g until events None seen e = end_unrefused (end_of seen.standing) e
+look_unrefused g until events (Some line) seen e = cc

@@ -1,3 +1,4 @@
+mod AnswerTerms
 pub mod Complaining
 pub mod StartLaws
 pub mod HistoryLaws
@@ -15,4 +16,4 @@ mod SavedOutcome
 mod Showing
 mod SnapshotKinds
 mod SnapshotShown
-mod ToldErrors
+mod ErrorComplaints

@@ -5,17 +5,11 @@ use Rattle.std.proofs.lemmas.List.{length-append, take-append-le}
 use Rattle.std.proofs.lemmas.Result.{err_from_is_err_and}
 use Rattle.std.proofs.Math.Seq.{take-append-add}
 use Rattle.sig_base.specs.Sink.{Outlet, GrowsBy}
-use Rattle.sig_base.proofs.SinkLemmas.{GrowsBy-append}
-use Rattle.answer_delivery.specs.declared.answer.Answer.TheVariants.{Given}
-use Rattle.answer_delivery.specs.declared.status.End.{End}
-use Rattle.answer_delivery.specs.declared.status.Failure.{Failure}
+use Rattle.sig_base.proofs.SinkLemmas.{GrowsBy-nothing, GrowsBy-append}
 use Rattle.answer_delivery.specs.declared.status.Failure.TheVariants as failures
-use Rattle.answer_delivery.specs.Delivery.{Delivers}
-use Rattle.answer_delivery.specs.FrontWritten.{GrowsByFront}
-use Rattle.answer_delivery.specs.DeliverySteps.{Written}
 use Rattle.job_answers.specs.Inner.WritingSteps.{WritesPieces}
 use Rattle.job_answers.specs.Inner.ReportSteps.{IsWrittenUpTo}
-use Rattle.job_answers.proofs.Streaming.{grown_by_none}
+use Rattle.job_answers.proofs.AnswerTerms.{Given, End, Failure, Delivers, GrowsByFront, Written}
 
 -- what writing bytes comes to
 abbrev Wrote : Type 0
@@ -40,11 +34,11 @@ front_after o m p first second grown (n, fits, grows) = (
 
 -- nothing was written
 pub none_yet : (o : Outlet) → WritesPieces [] (Ok tt) o o
-none_yet o = (grown_by_none o.written, λ some. absurd (omega (arith, some)), refl, λ none. refl)
+none_yet o = (GrowsBy-nothing o.written, λ some. absurd (omega (arith, some)), refl, λ none. refl)
 
 -- memory was refused before there was a byte
 pub none_in_memory : (bytes : List ℕ) (o : Outlet) → WritesPieces bytes (Err failures.NoMemory) o o
-none_in_memory bytes o = ((0, omega arith, grown_by_none o.written), refl)
+none_in_memory bytes o = ((0, omega arith, GrowsBy-nothing o.written), refl)
 
 -- a piece that was written at once
 pub whole_piece : (bytes : List ℕ) (r : Wrote) (o p : Outlet) → Written bytes r o p → WritesPieces bytes r o p
@@ -115,14 +109,14 @@ stopped left bytes o m h = at_last left bytes (Err failures.NoMemory) o m m h (n
 pub passed_failure : {A : Type 0} (bytes : List ℕ) (r : Wrote) (passed : Result A Failure) (e : Failure) (o p : Outlet) → r ≡ Err e → IsErrAnd passed (λ f. f ≡ e) → WritesPieces bytes r o p
     → (f : Failure) × (passed ≡ Err f) × WritesPieces bytes (Err f) o p
 passed_failure bytes r passed e o p is passes h =
-    let (f, told, same) = err_from_is_err_and passed passes in
-    (f, told, subst (λ (x : Wrote). WritesPieces bytes x o p) (is ∙ ap (λ (x : Failure). Err x) (sym same)) h)
+    let (f, is_error, same) = err_from_is_err_and passed passes in
+    (f, is_error, subst (λ (x : Wrote). WritesPieces bytes x o p) (is ∙ ap (λ (x : Failure). Err x) (sym same)) h)
 
 -- want of memory
 pub passed_memory : (bytes : List ℕ) (passed : Wrote) (o p : Outlet) → IsErrAnd passed (λ f. f ≡ failures.NoMemory) → WritesPieces bytes (Err failures.NoMemory) o p → WritesPieces bytes passed o p
 passed_memory bytes passed o p passes h =
-    let (f, told, same) = err_from_is_err_and passed passes in
-    subst (λ (x : Wrote). WritesPieces bytes x o p) (sym (told ∙ ap (λ (x : Failure). Err x) same)) h
+    let (f, is_error, same) = err_from_is_err_and passed passes in
+    subst (λ (x : Wrote). WritesPieces bytes x o p) (sym (is_error ∙ ap (λ (x : Failure). Err x) same)) h
 
 -- ---- the answer
 

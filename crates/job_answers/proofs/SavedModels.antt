@@ -1,5 +1,5 @@
 -- The model that a saved document reads as is valid, since its text up to the word `end` is a model text of its own; and its
--- vertices have few parameters.
+-- vertices have no more parameters than a vertex may have.
 use Rattle.std.proofs.Common.{List, ℕ, ◌≤◌, [], ◌∷◌, length, subst}
 use Rattle.std.specs.List.{AllByRecursion}
 use Rattle.model_core.specs.EventGraph.{EventGraph, EventVertex, Variable}
@@ -29,9 +29,9 @@ saved_model_valid text g s reads =
 
 -- ---- no vertex of an accepted model has too many parameters
 
-few_of_each : (variables : List Variable) (tables : ℕ) (takes : List (List ℕ)) (vertices : List EventVertex) → AllByRecursion (KeepsVertex variables tables takes) vertices → AllByRecursion (λ (v : EventVertex). length v.parameters ≤ PARAMETERS_MAX) vertices
-few_of_each variables tables takes [] all = tt
-few_of_each variables tables takes (v ∷ vertices) all = (all.0.few_parameters, few_of_each variables tables takes vertices all.1)
+each_within_maximum : (variables : List Variable) (tables : ℕ) (takes : List (List ℕ)) (vertices : List EventVertex) → AllByRecursion (KeepsVertex variables tables takes) vertices → AllByRecursion (λ (v : EventVertex). length v.parameters ≤ PARAMETERS_MAX) vertices
+each_within_maximum variables tables takes [] all = tt
+each_within_maximum variables tables takes (v ∷ vertices) all = (all.0.few_parameters, each_within_maximum variables tables takes vertices all.1)
 
-pub few_parameters : (m : WrittenModel) (g : EventGraph) → Accepted m g → AllByRecursion (λ (v : EventVertex). length v.parameters ≤ PARAMETERS_MAX) g.vertices
-few_parameters m g accepted = few_of_each g.variables (length g.tables) (parameters_of g) g.vertices ((accepted_by_itself m g).0 accepted).1.parts.vertices
+pub parameters_within_maximum : (m : WrittenModel) (g : EventGraph) → Accepted m g → AllByRecursion (λ (v : EventVertex). length v.parameters ≤ PARAMETERS_MAX) g.vertices
+parameters_within_maximum m g accepted = each_within_maximum g.variables (length g.tables) (parameters_of g) g.vertices ((accepted_by_itself m g).0 accepted).1.parts.vertices

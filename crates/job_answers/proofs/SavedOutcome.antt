@@ -16,8 +16,8 @@ use Rattle.model_core.specs.Saved.GoodSnapshots.{bad_at, saved_run}
 use Rattle.answer_delivery.specs.declared.complaint.Complaint.{Complaint}
 use Rattle.answer_delivery.specs.declared.complaint.Complaint.TheVariants as complaints
 use Rattle.job_answers.specs.SavedReading.{ReadsSaved}
-use Rattle.job_answers.specs.SavedComplaints.{IsSnapshotComplaint, IsSavedGrammarComplaint, in_model, in_snapshot, IsSavedComplaint, of_saved_bytes, of_saved_tokens, of_model, of_snapshot}
-use Rattle.job_answers.specs.Complained.{HasSavedComplaint}
+use Rattle.job_answers.specs.SavedComplaints.{IsSavedGrammarComplaint, in_model, in_snapshot, IsSavedComplaint, of_saved_bytes, of_saved_tokens, of_model, of_snapshot}
+use Rattle.job_answers.specs.TextComplaints.{HasSavedComplaint}
 use Rattle.job_answers.proofs.FaultLaws.{FaultLaws}
 use Rattle.job_answers.proofs.FrontOutcome.{Computed, and_then, front_outcome, front_begun, front_complained, FrontFault, FrontModel, front_or_fault, unless_fault, one_graph}
 
@@ -62,12 +62,8 @@ module _ (laws : FaultLaws) (snapshots : SnapshotLaws) (text : List ℕ) where
   no_snapshot tokens at wrong (inl spelled) = absurd (wrong.none spelled.0 spelled.1)
   no_snapshot tokens at wrong (inr other) = ap (λ k. Err (complaints.Unexpected, k)) (snapshots.one_place text tokens other.0 at other.1 wrong)
 
-  snapshot_complained : (tokens : List Lexeme) (what : Complaint) (at : ℕ) → IsSnapshotComplaint text tokens what at → snapshot_outcome tokens ≡ Err (what, at)
-  snapshot_complained tokens complaints.Unexpected at h = no_snapshot tokens at h (snapshots.decided text tokens)
-  snapshot_complained tokens complaints.TooDeep at h = absurd h
-  snapshot_complained tokens complaints.BadByte at h = absurd h
-  snapshot_complained tokens (complaints.Static kind) at h = absurd h
-  snapshot_complained tokens complaints.BadSnapshot at h = absurd h
+  snapshot_complained : (tokens : List Lexeme) (what : Complaint) (at : ℕ) → what ≡ complaints.Unexpected → IsNoSnapshotAt text tokens at → snapshot_outcome tokens ≡ Err (what, at)
+  snapshot_complained tokens what at is wrong = no_snapshot tokens at wrong (snapshots.decided text tokens) ∙ ap (λ w. Err (w, at)) (sym is)
 
   -- ---- the outcome for all tokens
 
@@ -79,8 +75,8 @@ module _ (laws : FaultLaws) (snapshots : SnapshotLaws) (text : List ℕ) where
 
   grammar_complained : (tokens : List Lexeme) (what : Complaint) (at : ℕ) → IsSavedGrammarComplaint text tokens what at → grammar_outcome tokens ≡ Err (what, at)
   grammar_complained tokens what at (in_model h) = ap (and_then behind_model) (front_complained text tokens what at h)
-  grammar_complained tokens what at (in_snapshot model left b h) =
-      ap (and_then behind_model) (front_begun text tokens model left b) ∙ ap (and_then (λ w. Ok (model, w))) (snapshot_complained left what at h)
+  grammar_complained tokens what at (in_snapshot model left b is wrong) =
+      ap (and_then behind_model) (front_begun text tokens model left b) ∙ ap (and_then (λ w. Ok (model, w))) (snapshot_complained left what at is wrong)
 
   -- ---- the outcome for the document
 
@@ -108,8 +104,8 @@ module _ (laws : FaultLaws) (snapshots : SnapshotLaws) (text : List ℕ) where
   complaint_outcome : (what : Complaint) (at : ℕ) → IsSavedComplaint text what at → saved_outcome ≡ Err (what, at)
   complaint_outcome what at (of_saved_bytes is cut) = ap cut_outcome cut ∙ ap (λ w. Err (w, at)) (sym is)
   complaint_outcome what at (of_saved_tokens tokens cut h) = ap cut_outcome cut ∙ ap (and_then good_outcome) (grammar_complained tokens what at h)
-  complaint_outcome what at (of_model m w s kind is told) =
-      spelled_outcome m w s ∙ ap (λ o. unless_fault o (unless_bad (bad_for (numbered m) w) (Ok (m, w)))) ((laws.told m (record { at = at; kind = kind })).1 told) ∙ ap (λ c. Err (c, at)) (sym is)
+  complaint_outcome what at (of_model m w s kind is fault) =
+      spelled_outcome m w s ∙ ap (λ o. unless_fault o (unless_bad (bad_for (numbered m) w) (Ok (m, w)))) ((laws.first_is_fault m (record { at = at; kind = kind })).1 fault) ∙ ap (λ c. Err (c, at)) (sym is)
   complaint_outcome what at (of_snapshot m w s g accepted is bad) =
       accepted_outcome m w g s accepted ∙ ap (λ o. unless_bad o (Ok (m, w))) bad ∙ ap (λ c. Err (c, at)) (sym is)
 
@@ -137,7 +133,7 @@ module _ (laws : FaultLaws) (snapshots : SnapshotLaws) (text : List ℕ) where
       let e : ◌≡◌ {A = Computed Parts} (Ok (r.model, r.snapshot)) (Ok (q.model, q.snapshot)) = sym (reads_outcome g s r) ∙ reads_outcome h t q in
       let f : ◌≡◌ {A = Parts} (r.model, r.snapshot) (q.model, q.snapshot) = cc in
       let models = one_graph r.model q.model g h (ap (λ (x : Parts). x.0) f) r.accepted.numbers q.accepted.numbers in
-      (models, same_run g h r.snapshot q.snapshot s t models (ap (λ (x : Parts). x.1) f) r.stands q.stands)
+      (models, same_run g h r.snapshot q.snapshot s t models (ap (λ (x : Parts). x.1) f) r.means q.means)
 
   -- ---- one of them there is
 
@@ -146,16 +142,16 @@ module _ (laws : FaultLaws) (snapshots : SnapshotLaws) (text : List ℕ) where
 
   module _ (within : length text ≤ DOCUMENT_MAX) where
     by_goodness : (m : WrittenModel) (w : WrittenSnapshot) → SpellsSaved text m w → (g : EventGraph) → Accepted m g → (o : Option ℕ) → bad_at g w ≡ o → SavedOrComplaint
-    by_goodness m w s g accepted None good = inr (g, saved_run g w, record { fits = within; model = m; snapshot = w; spells = s; accepted = accepted; good = good; stands = refl })
+    by_goodness m w s g accepted None good = inr (g, saved_run g w, record { fits = within; model = m; snapshot = w; spells = s; accepted = accepted; good = good; means = refl })
     by_goodness m w s g accepted (Some at) bad = inl (complaints.BadSnapshot, at, of_snapshot m w s g accepted refl bad)
 
     by_model : (m : WrittenModel) (w : WrittenSnapshot) → SpellsSaved text m w → (o : Option StaticFault) → first_fault m ≡ o → SavedOrComplaint
     by_model m w s None e = let (g, is) = (laws.accepted m).0 e in by_goodness m w s g is (bad_at g w) refl
-    by_model m w s (Some f) e = inl (complaints.Static f.kind, f.at, of_model m w s f.kind refl ((laws.told m f).0 e))
+    by_model m w s (Some f) e = inl (complaints.Static f.kind, f.at, of_model m w s f.kind refl ((laws.first_is_fault m f).0 e))
 
     by_snapshot : (tokens : List Lexeme) → tokens_of text ≡ Ok tokens → (a : FrontModel tokens) → SnapshotDecision text a.left → SavedOrComplaint
     by_snapshot tokens cut a (inl spelled) = by_model a.model spelled.0 (record { tokens = tokens; cut = cut; behind = a.left; begins = a.begins; ends = spelled.1 }) (first_fault a.model) refl
-    by_snapshot tokens cut a (inr wrong) = inl (complaints.Unexpected, wrong.0, of_saved_tokens tokens cut (in_snapshot a.model a.left a.begins wrong.1))
+    by_snapshot tokens cut a (inr wrong) = inl (complaints.Unexpected, wrong.0, of_saved_tokens tokens cut (in_snapshot a.model a.left a.begins refl wrong.1))
 
     by_front : (tokens : List Lexeme) → tokens_of text ≡ Ok tokens → FrontModel tokens ⊎ FrontFault text tokens → SavedOrComplaint
     by_front tokens cut (inl a) = by_snapshot tokens cut a (snapshots.decided text a.left)

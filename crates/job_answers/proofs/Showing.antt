@@ -94,11 +94,11 @@ pub makes : {A B : Type 0} {Q : Showing A} {R : Showing B} {k : List LexemeKind}
 makes h = record { made = h }
 
 -- a value that stays past what Q holds of
-pub record Stays {A B : Type 0} (Q : Showing A) (R : Showing B) (k : List LexemeKind) (y : B) (i : List LexemeKind) : Type 0 where
+pub record KeepsValue {A B : Type 0} (Q : Showing A) (R : Showing B) (k : List LexemeKind) (y : B) (i : List LexemeKind) : Type 0 where
   pub kept : (x : A) (j : List LexemeKind) → Q i x j → R k y j
 
-pub stays : {A B : Type 0} {Q : Showing A} {R : Showing B} {k : List LexemeKind} {y : B} {i : List LexemeKind} → ((x : A) (j : List LexemeKind) → Q i x j → R k y j) → Stays Q R k y i
-stays h = record { kept = h }
+pub keeps_value : {A B : Type 0} {Q : Showing A} {R : Showing B} {k : List LexemeKind} {y : B} {i : List LexemeKind} → ((x : A) (j : List LexemeKind) → Q i x j → R k y j) → KeepsValue Q R k y i
+keeps_value h = record { kept = h }
 
 pub shows-token : {A : Type 0} (s : TokenSort) (f : Lexeme → A) (R : Showing A) → ((t : Lexeme) → IsExact t.kind → sort_as s t.kind ≡ s → (j : List LexemeKind) → R (before_kinds t.kind j) (f t) j) → Shows (Single s f) R
 shows-token {A} s f R holds = record { run = go }
@@ -130,7 +130,7 @@ shows-then {B = B} {R = R} first second = record {
 pub shows-made : {A B : Type 0} (g : A → B) {p : LanguageFormat A} {Q : Showing A} (R : Showing B) → Shows p Q → ((k : List LexemeKind) (x : A) (j : List LexemeKind) → Q k x j → R k (g x) j) → Shows (Apply (Yields g) p) R
 shows-made g {Q = Q} R part holds = shows-then (shows-yields g (Makes Q R) (λ k. makes (λ x j q. holds k x j q))) part
 
-pub shows-past : {A B : Type 0} {p : LanguageFormat A} {q : LanguageFormat B} {Q : Showing B} {R : Showing A} → Shows p (Stays Q R) → Shows q Q → Shows (p <* q) R
+pub shows-past : {A B : Type 0} {p : LanguageFormat A} {q : LanguageFormat B} {Q : Showing B} {R : Showing A} → Shows p (KeepsValue Q R) → Shows q Q → Shows (p <* q) R
 shows-past {Q = Q} {R = R} first second = shows-then (shows-made (λ x y. x) (Makes Q R) first (λ k x i h. makes (λ y j q. h.kept y j q))) second
 
 -- a part after another one
@@ -208,7 +208,7 @@ shows-name = shows-token AName _ ANameSo (λ t exact same j. by t.kind t.from sa
     by (NumberOf n m) from same j = cc
     by (Mark v) from same j = cc
 
--- a number that is known
+-- a number that has a value
 abbrev pub ANumberSo : Showing WrittenNumber
 ANumberSo k w j = (x : ℤ) → w.value ≡ Some x → (n : ℕ) × (x ≡ pos n) × (k ≡ number n ∷ j)
 
@@ -216,8 +216,8 @@ ANumberSo k w j = (x : ℤ) → w.value ≡ Some x → (n : ℕ) × (x ≡ pos n
 abbrev pub AnExactSo : Showing ℕ
 AnExactSo k n j = k ≡ number n ∷ j
 
-known-number : (value : Option ℤ) (exact : ℕ) → value ≡ literal exact → (j : List LexemeKind) (x : ℤ) → value ≡ Some x → (n : ℕ) × (x ≡ pos n) × (NumberOf value exact ∷ j ≡ number n ∷ j)
-known-number value exact is j x known = by (nat_lt exact (2 ^ 63)) (sym known ∙ is)
+number-value : (value : Option ℤ) (exact : ℕ) → value ≡ literal exact → (j : List LexemeKind) (x : ℤ) → value ≡ Some x → (n : ℕ) × (x ≡ pos n) × (NumberOf value exact ∷ j ≡ number n ∷ j)
+number-value value exact is j x numbers = by (nat_lt exact (2 ^ 63)) (sym numbers ∙ is)
   where
     by : (b : Bool) → Some x ≡ (if b then Some (pos exact) else None) → (n : ℕ) × (x ≡ pos n) × (NumberOf value exact ∷ j ≡ number n ∷ j)
     by true e = let h : x ≡ pos exact = cc in (exact, h, ap (λ v. NumberOf v exact ∷ j) is)
@@ -229,7 +229,7 @@ shows-number = shows-token ANumber _ ANumberSo (λ t exact same j. by t.kind t.f
     by : (kind : LexemeKind) (from : ℕ) → IsExact kind → sort_of kind ≡ ANumber → (j : List LexemeKind) (x : ℤ) → number_value kind ≡ Some x → (n : ℕ) × (x ≡ pos n) × (before_kinds kind j ≡ number n ∷ j)
     by (NameOf b) from exact same j = cc
     by (Reserved v) from exact same j = cc
-    by (NumberOf v n) from exact same j = known-number v n exact j
+    by (NumberOf v n) from exact same j = number-value v n exact j
     by (Mark v) from exact same j = cc
 
 pub shows-exact : Shows (Single ANumber (λ t. number_exact t.kind)) AnExactSo

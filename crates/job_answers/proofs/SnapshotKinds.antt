@@ -27,7 +27,7 @@ use Rattle.model_core.specs.Saved.GoodSnapshots.{number_or_zero, is_at_most, fro
 use Rattle.model_core.proofs.BothTrue.{and_first, and_second}
 use Rattle.job_answers.specs.PlainKinds.{before_kinds}
 use Rattle.job_answers.proofs.GoodRuns.{AllGood}
-use Rattle.job_answers.proofs.Showing.{number, Showing, Shows, Makes, makes, Stays, stays, Behind, Maybe, Each, AMarkSo, ANameSo, ANumberSo, AnExactSo, shows-then, shows-made, shows-past, shows-behind, shows-as, shows-either, shows-maybe, shows-many, shows-this_name, shows-mark, shows-name, shows-number, shows-exact}
+use Rattle.job_answers.proofs.Showing.{number, Showing, Shows, Makes, makes, KeepsValue, keeps_value, Behind, Maybe, Each, AMarkSo, ANameSo, ANumberSo, AnExactSo, shows-then, shows-made, shows-past, shows-behind, shows-as, shows-either, shows-maybe, shows-many, shows-this_name, shows-mark, shows-name, shows-number, shows-exact}
 
 -- ---- the kinds of the tokens of a saved run's text
 
@@ -80,8 +80,8 @@ run_kinds g s =
 
 -- ---- numbers
 
-known-natural : (w : WrittenNumber) (m : ℕ) → numbering.natural w ≡ Some m → w.value ≡ Some (pos m)
-known-natural w m e = by w.value e
+natural-value : (w : WrittenNumber) (m : ℕ) → numbering.natural w ≡ Some m → w.value ≡ Some (pos m)
+natural-value w m e = by w.value e
   where
     by : (v : Option ℤ) → (v >>= natural_of) ≡ Some m → v ≡ Some (pos m)
     by None h = absurd cc
@@ -98,7 +98,7 @@ tested-number test w k j so good = by (numbering.natural w) refl good
     by : (o : Option ℕ) → numbering.natural w ≡ o → option_map_or test o false ≡ true → k ≡ number (unwrap_or o 0) ∷ j
     by None e h = absurd cc
     by (Some m) e h =
-        let s = so (pos m) (known-natural w m e) in
+        let s = so (pos m) (natural-value w m e) in
         s.2 ∙ ap (λ n. number n ∷ j) (same_pos (pos m) s.0 m refl s.1)
 
 pub tested-value : (test : ℕ → Bool) (w : WrittenNumber) → option_map_or test (numbering.natural w) false ≡ true → test (number_or_zero w) ≡ true
@@ -117,22 +117,22 @@ minus-number : (n : ℕ) (j : List LexemeKind) → before_kinds (Mark symbols.Mi
 minus-number zero j = refl
 minus-number (suc n) j = refl
 
-known-with_sign : (negative : Bool) (o : Option ℤ) (z : ℤ) → option_map (numbering.with_sign negative) o ≡ Some z → (x : ℤ) × (o ≡ Some x) × (numbering.with_sign negative x ≡ z)
-known-with_sign negative None z e = absurd cc
-known-with_sign negative (Some x) z e = let h : numbering.with_sign negative x ≡ z = cc in (x, refl, h)
+with_sign-value : (negative : Bool) (o : Option ℤ) (z : ℤ) → option_map (numbering.with_sign negative) o ≡ Some z → (x : ℤ) × (o ≡ Some x) × (numbering.with_sign negative x ≡ z)
+with_sign-value negative None z e = absurd cc
+with_sign-value negative (Some x) z e = let h : numbering.with_sign negative x ≡ z = cc in (x, refl, h)
 
 shows-signed : Shows signed_format ASignedSo
 unfolding signed_format
 shows-signed =
     shows-either
     (shows-then (shows-made (λ at n. record { at = at; negative = true; number = n }) (Makes ANumberSo ASignedSo) (shows-mark symbols.Minus) (λ k at i opened. makes (λ n j so z e.
-    let known = known-with_sign true n.value z e in
-    let s = so known.0 known.1 in
-    opened ∙ ap (before_kinds (Mark symbols.Minus)) s.2 ∙ minus-number s.0 j ∙ ap (λ x. signed_kinds x ++ j) (ap neg_ℤ (sym s.1) ∙ known.2)))) shows-number)
+    let numbers = with_sign-value true n.value z e in
+    let s = so numbers.0 numbers.1 in
+    opened ∙ ap (before_kinds (Mark symbols.Minus)) s.2 ∙ minus-number s.0 j ∙ ap (λ x. signed_kinds x ++ j) (ap neg_ℤ (sym s.1) ∙ numbers.2)))) shows-number)
     (shows-made (λ (n : WrittenNumber). record { at = n.at; negative = false; number = n }) ASignedSo shows-number (λ k n j so z e.
-    let known = known-with_sign false n.value z e in
-    let s = so known.0 known.1 in
-    s.2 ∙ ap (λ x. signed_kinds x ++ j) (sym s.1 ∙ known.2)))
+    let numbers = with_sign-value false n.value z e in
+    let s = so numbers.0 numbers.1 in
+    s.2 ∙ ap (λ x. signed_kinds x ++ j) (sym s.1 ∙ numbers.2)))
 
 abbrev ACarriedSo : Showing WrittenCarried
 ACarriedSo k c j = k ≡ signed_kinds (carried_of c) ++ j
@@ -160,32 +160,32 @@ shows-listed R part =
     shows-then (shows-made (λ x xs. x ∷ xs) (Makes (Each (Behind (AMarkSo symbols.Comma) R)) (Listed R)) part (λ k x i h. makes (λ xs j q. record { first = x; others = xs; are = refl; between = i; begins = h; goes_on = q })))
     (shows-many (Behind (AMarkSo symbols.Comma) R) (shows-behind (shows-mark symbols.Comma) part))
 
-known-signed : (s : WrittenSigned) → is_some (numbering.signed s) ≡ true → numbering.signed s ≡ Some (unwrap_or (numbering.signed s) (pos 0))
-known-signed s h = by (numbering.signed s) h
+signed-value : (s : WrittenSigned) → is_some (numbering.signed s) ≡ true → numbering.signed s ≡ Some (unwrap_or (numbering.signed s) (pos 0))
+signed-value s h = by (numbering.signed s) h
   where
     by : (o : Option ℤ) → is_some o ≡ true → o ≡ Some (unwrap_or o (pos 0))
     by None h = absurd cc
     by (Some z) h = refl
 
 others-signed : (k : List LexemeKind) (ws : List WrittenSigned) (j : List LexemeKind) → Each (Behind (AMarkSo symbols.Comma) ASignedSo) k ws j → all_known ws ≡ true → k ≡ others_kinds (signed_values ws) ++ j
-others-signed k [] j each known = each
-others-signed k (w ∷ ws) j each known =
+others-signed k [] j each numbers = each
+others-signed k (w ∷ ws) j each numbers =
     let z = unwrap_or (numbering.signed w) (pos 0) in
-    let here = each.1.second z (known-signed w (and_first _ _ known)) in
-    let later = others-signed each.0 ws j each.2 (and_second _ _ known) in
+    let here = each.1.second z (signed-value w (and_first _ _ numbers)) in
+    let later = others-signed each.0 ws j each.2 (and_second _ _ numbers) in
     each.1.first ∙ ap (before_kinds (Mark symbols.Comma)) (here ∙ ap (λ l. signed_kinds z ++ l) later)
     ∙ ap (λ l. Mark symbols.Comma ∷ l) (sym (append_assoc (signed_kinds z) (others_kinds (signed_values ws)) j))
 
 first-signed : (k : List LexemeKind) (w : WrittenSigned) (between : List LexemeKind) (ws : List WrittenSigned) (j : List LexemeKind) → ASignedSo k w between → Each (Behind (AMarkSo symbols.Comma) ASignedSo) between ws j → all_known (w ∷ ws) ≡ true → k ≡ list_kinds (signed_values (w ∷ ws)) ++ j
-first-signed k w between ws j begins each known =
+first-signed k w between ws j begins each numbers =
     let z = unwrap_or (numbering.signed w) (pos 0) in
-    begins z (known-signed w (and_first _ _ known)) ∙ ap (λ l. signed_kinds z ++ l) (others-signed between ws j each (and_second _ _ known))
+    begins z (signed-value w (and_first _ _ numbers)) ∙ ap (λ l. signed_kinds z ++ l) (others-signed between ws j each (and_second _ _ numbers))
     ∙ sym (append_assoc (signed_kinds z) (others_kinds (signed_values ws)) j)
 
 listed-signed : (k : List LexemeKind) (ws : List WrittenSigned) (j : List LexemeKind) → Listed ASignedSo k ws j → all_known ws ≡ true → k ≡ list_kinds (signed_values ws) ++ j
-listed-signed k ws j h known =
+listed-signed k ws j h numbers =
     subst (λ (l : List WrittenSigned). k ≡ list_kinds (signed_values l) ++ j) h.are
-    (first-signed k h.first h.between h.others j h.begins h.goes_on (subst (λ (l : List WrittenSigned). all_known l ≡ true) (sym h.are) known))
+    (first-signed k h.first h.between h.others j h.begins h.goes_on (subst (λ (l : List WrittenSigned). all_known l ≡ true) (sym h.are) numbers))
 
 others-carried : (k : List LexemeKind) (ws : List WrittenCarried) (j : List LexemeKind) → Each (Behind (AMarkSo symbols.Comma) ACarriedSo) k ws j → k ≡ others_kinds (map carried_of ws) ++ j
 others-carried k [] j each = each
@@ -217,10 +217,10 @@ streams-written : (least : ℕ) (k : List LexemeKind) (ws : List WrittenStream) 
 streams-written least k [] j each good = each
 streams-written least k (w ∷ ws) j each good =
     let h = each.1 in
-    let known = and_first (is_at_most 63 w.stream) _ (and_first _ (from_one_to (2 ^ 52) w.words) good.0) in
+    let numbers = and_first (is_at_most 63 w.stream) _ (and_first _ (from_one_to (2 ^ 52) w.words) good.0) in
     let counted = and_second (is_at_most 63 w.stream && not (nat_lt (number_or_zero w.stream) least)) (from_one_to (2 ^ 52) w.words) good.0 in
     let words_are = tested-number _ w.words h.behind_stream each.0 h.words counted ∙ ap (λ l. number (number_or_zero w.words) ∷ l) (streams-written (suc (number_or_zero w.stream)) each.0 ws j each.2 good.1) in
-    h.word ∙ ap (λ l. NameOf (codes "stream") ∷ l) (tested-number _ w.stream h.behind_word h.behind_stream h.stream known ∙ ap (λ l. number (number_or_zero w.stream) ∷ l) words_are)
+    h.word ∙ ap (λ l. NameOf (codes "stream") ∷ l) (tested-number _ w.stream h.behind_word h.behind_stream h.stream numbers ∙ ap (λ l. number (number_or_zero w.stream) ∷ l) words_are)
 
 no-words : (k n : ℕ) → streams_kinds k (replicate n 0) ≡ []
 no-words k zero = refl
@@ -248,10 +248,10 @@ streams-as-taken least (w ∷ ws) done more long whole good =
     let i = number_or_zero w.stream in
     let n = number_or_zero w.words in
     let front = and_first (is_at_most 63 w.stream && not (nat_lt i least)) (from_one_to (2 ^ 52) w.words) good.0 in
-    let few : nat_lt i 64 ≡ true = tested-value _ w.stream (and_first (is_at_most 63 w.stream) (not (nat_lt i least)) front) in
+    let low : nat_lt i 64 ≡ true = tested-value _ w.stream (and_first (is_at_most 63 w.stream) (not (nat_lt i least)) front) in
     let rises : not (nat_lt i least) ≡ true = and_second (is_at_most 63 w.stream) (not (nat_lt i least)) front in
     let counted : (nat_lt 0 n && nat_lt n (suc (2 ^ 52))) ≡ true = tested-value _ w.words (and_second (is_at_most 63 w.stream && not (nat_lt i least)) (from_one_to (2 ^ 52) w.words) good.0) in
-    let below : i < 64 = grind (arith, nat_tests, few) in
+    let below : i < 64 = grind (arith, nat_tests, low) in
     let from : least ≤ i = not_below i least rises in
     let some : 0 < n = (let p = and_first (nat_lt 0 n) (nat_lt n (suc (2 ^ 52))) counted in grind (arith, nat_tests, p)) in
     let d = i - least in
@@ -263,10 +263,10 @@ streams-as-taken least (w ∷ ws) done more long whole good =
     let apart : done ++ replicate more 0 ≡ filled ++ 0 ∷ replicate rest 0 = ap (λ m. done ++ replicate m 0) split ∙ ap (λ l. done ++ l) (zeros-then d (suc rest)) ∙ sym (append_assoc done (replicate d 0) (0 ∷ replicate rest 0)) in
     let set : slice_set (done ++ replicate more 0) i n ≡ (filled ++ n ∷ []) ++ replicate rest 0 = ap₂ (λ l m. slice_set l m n) apart (sym here) ∙ set-there filled n 0 (replicate rest 0) ∙ sym (append_assoc filled (n ∷ []) (replicate rest 0)) in
     let longer : length (filled ++ n ∷ []) ≡ suc i = length-append filled (n ∷ []) ∙ omega (arith, here) in
-    let told : streams_kinds 0 (filled ++ n ∷ []) ≡ streams_kinds 0 done ++ (NameOf (codes "stream") ∷ number i ∷ number n ∷ []) =
+    let one_more : streams_kinds 0 (filled ++ n ∷ []) ≡ streams_kinds 0 done ++ (NameOf (codes "stream") ∷ number i ∷ number n ∷ []) =
     streams-both 0 filled (n ∷ []) ∙ ap₂ (λ a b. a ++ b) (streams-both 0 done (replicate d 0) ∙ ap (λ l. streams_kinds 0 done ++ l) (no-words (0 + length done) d) ∙ append-nil (streams_kinds 0 done)) (append-nil (stream_kinds (0 + length filled) n) ∙ ap (λ m. stream_kinds m n) at ∙ one-stream i n some) in
     ap (λ l. streams_kinds 0 (with_taken ws l)) set ∙ streams-as-taken (suc i) ws (filled ++ n ∷ []) rest longer (omega (arith, split, whole, from)) good.1
-    ∙ ap (λ l. l ++ written_streams ws) told ∙ append_assoc (streams_kinds 0 done) (NameOf (codes "stream") ∷ number i ∷ number n ∷ []) (written_streams ws)
+    ∙ ap (λ l. l ++ written_streams ws) one_more ∙ append_assoc (streams_kinds 0 done) (NameOf (codes "stream") ∷ number i ∷ number n ∷ []) (written_streams ws)
   where
     not_below : (i least : ℕ) → not (nat_lt i least) ≡ true → least ≤ i
     not_below i least h = by (nat_lt i least) refl h
@@ -317,13 +317,13 @@ values-shown k (v ∷ variables) (w ∷ ws) j each good long =
     let h = each.1 in
     let named = same_bytes-are w.variable.name v.name (and_first _ _ good.0) in
     let fits = and_second (same_bytes w.variable.name v.name) (fit_variables (replicate (cell_count v) v) w.values) good.0 in
-    let known = and_first (all_known w.values) (in_ranges (replicate (cell_count v) v) (signed_values w.values)) fits in
+    let numbers = and_first (all_known w.values) (in_ranges (replicate (cell_count v) v) (signed_values w.values)) fits in
     let many : length (signed_values w.values) ≡ cell_count v = sym (ranges-length (replicate (cell_count v) v) (signed_values w.values) (and_second (all_known w.values) _ fits)) ∙ length-replicate (cell_count v) v in
     let mine : take (cell_count v) (signed_values w.values ++ all_values_of ws) ≡ signed_values w.values = ap (λ n. take n (signed_values w.values ++ all_values_of ws)) (sym many) ∙ take-append_seam (signed_values w.values) (all_values_of ws) in
     let theirs : drop (cell_count v) (signed_values w.values ++ all_values_of ws) ≡ all_values_of ws = ap (λ n. drop n (signed_values w.values ++ all_values_of ws)) (sym many) ∙ drop-append_seam (signed_values w.values) (all_values_of ws) in
     let later = values-shown each.0 variables ws j each.2 good.1 (omega (arith, long)) in
     let listed : h.behind_name ≡ (list_kinds (take (cell_count v) (signed_values w.values ++ all_values_of ws)) ++ values_kinds variables (drop (cell_count v) (signed_values w.values ++ all_values_of ws))) ++ j =
-    listed-signed h.behind_name w.values each.0 h.values known ∙ ap (λ l. list_kinds (signed_values w.values) ++ l) later
+    listed-signed h.behind_name w.values each.0 h.values numbers ∙ ap (λ l. list_kinds (signed_values w.values) ++ l) later
     ∙ sym (append_assoc (list_kinds (signed_values w.values)) (values_kinds variables (all_values_of ws)) j)
     ∙ ap₂ (λ a b. (list_kinds a ++ values_kinds variables b) ++ j) (sym mine) (sym theirs) in
     h.word ∙ ap (λ l. NameOf (codes "value") ∷ l) (h.variable ∙ ap₂ (λ n l. NameOf n ∷ l) named listed)
@@ -344,14 +344,14 @@ shows-noted =
     (λ k at i word. makes (λ o j values. record { behind_word = i; word = word; listed = o; are = refl; values = values }))) (shows-maybe (Listed ASignedSo) (shows-listed ASignedSo shows-signed))
 
 maybe-listed : (k : List LexemeKind) (o : Option (List WrittenSigned)) (j : List LexemeKind) → Maybe (Listed ASignedSo) k o j → all_known (unwrap_or o []) ≡ true → k ≡ list_kinds (signed_values (unwrap_or o [])) ++ j
-maybe-listed k None j h known = h
-maybe-listed k (Some ws) j h known = listed-signed k ws j h known
+maybe-listed k None j h numbers = h
+maybe-listed k (Some ws) j h numbers = listed-signed k ws j h numbers
 
 pub noted-shown : (g : EventGraph) (k : List LexemeKind) (o : Option WrittenNoted) (j : List LexemeKind) → Maybe ANotedSo k o j → AllGood (noted_parts g o) → k ≡ noted_kinds (option_map (λ (n : WrittenNoted). signed_values n.values) o) ++ j
 noted-shown g k None j h good = h
 noted-shown g k (Some w) j h good =
-    let known = and_first (all_known w.values) (in_ranges (cell_variables (variables_watched g g.watch)) (signed_values w.values)) good.0 in
-    h.word ∙ ap (λ l. NameOf (codes "noted") ∷ l) (maybe-listed h.behind_word h.listed j h.values (ap all_known h.are ∙ known) ∙ ap (λ (ws : List WrittenSigned). list_kinds (signed_values ws) ++ j) h.are)
+    let numbers = and_first (all_known w.values) (in_ranges (cell_variables (variables_watched g g.watch)) (signed_values w.values)) good.0 in
+    h.word ∙ ap (λ l. NameOf (codes "noted") ∷ l) (maybe-listed h.behind_word h.listed j h.values (ap all_known h.are ∙ numbers) ∙ ap (λ (ws : List WrittenSigned). list_kinds (signed_values ws) ++ j) h.are)
 
 -- ---- pending events
 
@@ -365,7 +365,7 @@ pub record ACarriesSo (k : List LexemeKind) (ws : List WrittenCarried) (j : List
 shows-carries : Shows carries_format ACarriesSo
 unfolding carries_format
 shows-carries =
-    shows-past (shows-as (Stays (AMarkSo symbols.CloseParenthesis) ACarriesSo) (λ k ws i h. stays (λ at j closes. record { inside = h.between; behind = i; opens = h.first; listed = h.second; closes = closes }))
+    shows-past (shows-as (KeepsValue (AMarkSo symbols.CloseParenthesis) ACarriesSo) (λ k ws i h. keeps_value (λ at j closes. record { inside = h.between; behind = i; opens = h.first; listed = h.second; closes = closes }))
     (shows-behind (shows-mark symbols.OpenParenthesis) (shows-listed ACarriedSo shows-carried))) (shows-mark symbols.CloseParenthesis)
 
 first-carried : (k : List LexemeKind) (w : WrittenCarried) (between : List LexemeKind) (ws : List WrittenCarried) (i j : List LexemeKind) → ACarriedSo k w between → Each (Behind (AMarkSo symbols.Comma) ACarriedSo) between ws i → i ≡ Mark symbols.CloseParenthesis ∷ j → Mark symbols.OpenParenthesis ∷ k ≡ carried_kinds (map carried_of (w ∷ ws)) ++ j
@@ -427,13 +427,13 @@ event-shown g clock k w j h good =
     let vertex = place_of_vertex w.vertex.name g.vertices in
     let front = and_first (is_at_most (2 ^ 63 - 1) w.ticks && is_at_most 255 w.priority) (has_parameters g (length w.values) vertex && list_all is_wide w.values) good in
     let behind = and_second (is_at_most (2 ^ 63 - 1) w.ticks && is_at_most 255 w.priority) (has_parameters g (length w.values) vertex && list_all is_wide w.values) good in
-    let ticks_known = and_first (is_at_most (2 ^ 63 - 1) w.ticks) (is_at_most 255 w.priority) front in
-    let priority_known = and_second (is_at_most (2 ^ 63 - 1) w.ticks) (is_at_most 255 w.priority) front in
+    let ticks_number = and_first (is_at_most (2 ^ 63 - 1) w.ticks) (is_at_most 255 w.priority) front in
+    let priority_number = and_second (is_at_most (2 ^ 63 - 1) w.ticks) (is_at_most 255 w.priority) front in
     let named = vertex-name g (length w.values) w.vertex.name (and_first (has_parameters g (length w.values) vertex) (list_all is_wide w.values) behind) in
     let later : number_or_zero w.ticks ≡ (clock + number_or_zero w.ticks) - clock = omega arith in
     let from_name : h.behind_priority ≡ NameOf (vertex_name g (unwrap_or vertex 0)) ∷ (carried_kinds (map carried_of w.values) ++ j) = h.vertex ∙ ap₂ (λ n l. NameOf n ∷ l) (sym named) h.values in
-    let from_priority = tested-number _ w.priority h.behind_ticks h.behind_priority h.priority priority_known ∙ ap (λ l. number (number_or_zero w.priority) ∷ l) from_name in
-    let from_ticks = tested-number _ w.ticks h.behind_word h.behind_ticks h.ticks ticks_known ∙ ap₂ (λ n l. number n ∷ l) later from_priority in
+    let from_priority = tested-number _ w.priority h.behind_ticks h.behind_priority h.priority priority_number ∙ ap (λ l. number (number_or_zero w.priority) ∷ l) from_name in
+    let from_ticks = tested-number _ w.ticks h.behind_word h.behind_ticks h.ticks ticks_number ∙ ap₂ (λ n l. number n ∷ l) later from_priority in
     h.word ∙ ap (λ l. NameOf (codes "pending") ∷ l) from_ticks
 
 pub events-shown : (g : EventGraph) (clock : ℕ) (k : List LexemeKind) (ws : List WrittenPending) (j : List LexemeKind) → Each APendingSo k ws j → AllGood (map (pending_part g) ws) → k ≡ events_kinds g clock (map (saved_entry g clock) ws) ++ j

@@ -15,7 +15,7 @@ use Rattle.model_core.specs.Saved.SavedRun.{SavedRun, IsGood}
 use Rattle.model_core.specs.Saved.GoodSnapshots.{number_or_zero, signed_values, bad_at, with_taken, saved_entry, saved_run}
 use Rattle.job_answers.specs.PlainKinds.{plain_kinds}
 use Rattle.job_answers.proofs.GoodRuns.{good_parts, good_run}
-use Rattle.job_answers.proofs.Showing.{number, AreExact, tokens-exact, exact-behind, Showing, Shows, Makes, makes, Stays, stays, Maybe, Each, AWordSo, ANumberSo, shows-yields, shows-then, shows-past, shows-maybe, shows-many, shows-this_name, shows-reserved, shows-number}
+use Rattle.job_answers.proofs.Showing.{number, AreExact, tokens-exact, exact-behind, Showing, Shows, Makes, makes, KeepsValue, keeps_value, Maybe, Each, AWordSo, ANumberSo, shows-yields, shows-then, shows-past, shows-maybe, shows-many, shows-this_name, shows-reserved, shows-number}
 use Rattle.job_answers.proofs.SnapshotKinds.{streams_kinds, values_kinds, noted_kinds, events_kinds, run_kinds, tested-number, tested-value, AStreamSo, shows-stream, streams-shown, AValueSo, shows-value, values-shown, ANotedSo, shows-noted, noted-shown, APendingSo, shows-pending, events-shown}
 
 -- each part, from the kinds before it to those after it
@@ -52,8 +52,8 @@ AName bytes = AWordSo (NameOf bytes)
 shows-snapshot : Shows snapshot_format SnapshotSo
 unfolding snapshot_format
 shows-snapshot =
-    shows-then (shows-then (shows-then (shows-then (shows-then (shows-then (shows-then (shows-then (shows-then (shows-then (shows-then (shows-then (shows-past (shows-yields _ (Stays (AName (codes "snapshot")) (Makes (AName (codes "seed")) (Makes ANumberSo (Makes ANumberSo (Makes (AWordSo (Reserved words.Clk)) (Makes ANumberSo (Makes (AName (codes "events")) (Makes ANumberSo (Makes (Each AStreamSo) (Makes (Each AValueSo) (Makes (Maybe ANotedSo) (Makes (Each APendingSo) (Makes (AWordSo (Reserved words.End)) SnapshotSo)))))))))))))
-    (λ k. stays (λ at i1 word. makes (λ seed_at i2 seed_word. makes (λ seed i3 seed_is. makes (λ rest i4 rest_is. makes (λ clock_at i5 clock_word. makes (λ clock i6 clock_is. makes (λ events_at i7 events_word. makes (λ events i8 events_is. makes (λ streams i9 streams_are. makes (λ values i10 values_are. makes (λ noted i11 noted_is. makes (λ pending i12 pending_are. makes (λ end_at i13 end_is. record { after_word = i1; after_seed_word = i2; after_seed = i3; after_rest = i4; after_clock_word = i5; after_clock = i6; after_events_word = i7; after_events = i8; after_streams = i9; after_values = i10; after_noted = i11; after_pending = i12; word = word; seed_word = seed_word; seed = seed_is; rest = rest_is; clock_word = clock_word; clock = clock_is; events_word = events_word; events = events_is; streams = streams_are; values = values_are; noted = noted_is; pending = pending_are; end = end_is })))))))))))))))
+    shows-then (shows-then (shows-then (shows-then (shows-then (shows-then (shows-then (shows-then (shows-then (shows-then (shows-then (shows-then (shows-past (shows-yields _ (KeepsValue (AName (codes "snapshot")) (Makes (AName (codes "seed")) (Makes ANumberSo (Makes ANumberSo (Makes (AWordSo (Reserved words.Clk)) (Makes ANumberSo (Makes (AName (codes "events")) (Makes ANumberSo (Makes (Each AStreamSo) (Makes (Each AValueSo) (Makes (Maybe ANotedSo) (Makes (Each APendingSo) (Makes (AWordSo (Reserved words.End)) SnapshotSo)))))))))))))
+    (λ k. keeps_value (λ at i1 word. makes (λ seed_at i2 seed_word. makes (λ seed i3 seed_is. makes (λ rest i4 rest_is. makes (λ clock_at i5 clock_word. makes (λ clock i6 clock_is. makes (λ events_at i7 events_word. makes (λ events i8 events_is. makes (λ streams i9 streams_are. makes (λ values i10 values_are. makes (λ noted i11 noted_is. makes (λ pending i12 pending_are. makes (λ end_at i13 end_is. record { after_word = i1; after_seed_word = i2; after_seed = i3; after_rest = i4; after_clock_word = i5; after_clock = i6; after_events_word = i7; after_events = i8; after_streams = i9; after_values = i10; after_noted = i11; after_pending = i12; word = word; seed_word = seed_word; seed = seed_is; rest = rest_is; clock_word = clock_word; clock = clock_is; events_word = events_word; events = events_is; streams = streams_are; values = values_are; noted = noted_is; pending = pending_are; end = end_is })))))))))))))))
     (shows-this_name (codes "snapshot"))) (shows-this_name (codes "seed"))) shows-number) shows-number) (shows-reserved words.Clk)) shows-number) (shows-this_name (codes "events"))) shows-number) (shows-many AStreamSo shows-stream)) (shows-many AValueSo shows-value)) (shows-maybe ANotedSo shows-noted)) (shows-many APendingSo shows-pending)) (shows-reserved words.End)
 
 quotient : (a b : ℕ) → b < 2 ^ 32 → a ≡ (a * 2 ^ 32 + b) / 2 ^ 32
@@ -91,7 +91,7 @@ pub printed-again : ReadBack → (g : EventGraph) (text : List ℕ) (front behin
     → (printed : List Lexeme) × (tokens_from at 0 (snapshot_text g (saved_run g w)) ≡ Ok printed) × (plain_kinds printed ≡ plain_kinds behind)
 printed-again reads_back g text front behind w at kept spellable cut is none =
     let s = saved_run g w in
-    let (printed, again, cut_again, is_again, none_again, stands) = reads_back g s at kept spellable (good_run g w none) in
+    let (printed, again, cut_again, is_again, none_again, means) = reads_back g s at kept spellable (good_run g w none) in
     let first = kinds-of g behind w (exact-behind front behind (tokens-exact 0 text (front ++ behind) cut)) is none in
     let second = kinds-of g printed again (tokens-exact at (snapshot_text g s) printed cut_again) is_again none_again in
-    (printed, cut_again, second ∙ ap (run_kinds g) stands ∙ sym first)
+    (printed, cut_again, second ∙ ap (run_kinds g) means ∙ sym first)

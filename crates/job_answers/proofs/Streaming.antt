@@ -1,31 +1,19 @@
 -- From what was written, and how it was finished, to the answer that was delivered; for answers that are written as they
 -- come, and for those that are written at once.
-use Rattle.std.proofs.Common.{◌≡◌, ◌≢◌, ◌⊎◌, inl, inr, ℕ, ◌<◌, false, List, [], take, length, Option, Some, None, Result, Ok, Err, sym, ap, ◌∙◌, subst, arith}
+use Rattle.std.proofs.Common.{◌≡◌, ◌≢◌, ◌⊎◌, inl, inr, ℕ, ◌<◌, false, List, take, length, Option, Some, None, Result, Ok, Err, sym, ◌∙◌, subst, arith}
 use Rattle.std.specs.Prelude.{IfOk, MatchResult}
-use Rattle.std.proofs.lemmas.List.{append-nil}
 use Rattle.std.proofs.Math.Seq.{take-length}
 use Rattle.sig_base.specs.declared.no_memory.NoMemory.{NoMemory}
 use Rattle.sig_base.specs.Faults.{HasRisen}
 use Rattle.sig_base.specs.Sink.{Outlet, GrowsBy}
 use Rattle.sig_base.specs.Source.{Stays}
-use Rattle.answer_delivery.specs.declared.answer.Answer.{Answer}
-use Rattle.answer_delivery.specs.declared.answer.Answer.TheVariants.{Given}
-use Rattle.answer_delivery.specs.declared.delivering.DeliveryOutcome.{DeliveryOutcome}
+use Rattle.sig_base.proofs.SinkLemmas.{GrowsBy-nothing}
 use Rattle.answer_delivery.specs.declared.delivering.DeliveryOutcome.TheVariants as said
-use Rattle.answer_delivery.specs.declared.status.End.{End}
-use Rattle.answer_delivery.specs.declared.status.Failure.{Failure}
 use Rattle.answer_delivery.specs.declared.status.Failure.TheVariants as failures
-use Rattle.answer_delivery.specs.Delivery.{Delivers, DeliversSome}
-use Rattle.answer_delivery.specs.FrontWritten.{GrowsByFront}
-use Rattle.answer_delivery.specs.DeliverySteps.{Written, Closed}
 use Rattle.job_answers.specs.Inner.WritingSteps.{StreamsBytes}
+use Rattle.job_answers.proofs.AnswerTerms.{Answer, Given, End, Failure, DeliveryOutcome, Delivers, DeliversSome, GrowsByFront, Written, Closed}
 
 -- ---- a piece that was written at once
-
--- an output on which nothing was written grew by nothing
-pub grown_by_none : (old : Option (List ℕ)) → GrowsBy old old []
-grown_by_none None = tt
-grown_by_none (Some before) = ap Some (sym (append-nil before))
 
 -- a write that failed left some byte unwritten
 pub some_unwritten : (bytes : List ℕ) (n : ℕ) → n < length bytes → 0 < length bytes
@@ -36,9 +24,9 @@ front_of o p bytes n front h = (n, omega (arith, front), h)
 
 -- ---- the bytes, and finishing after them
 
-stays_grown : (old mid new : Option (List ℕ)) (bytes : List ℕ) → GrowsBy old mid bytes → Stays mid new → GrowsBy old new bytes
-stays_grown None mid new bytes h k = tt
-stays_grown (Some before) mid new bytes h k = subst (λ (m : Option (List ℕ)). Stays m new) h k
+grown_until_finished : (old mid new : Option (List ℕ)) (bytes : List ℕ) → GrowsBy old mid bytes → Stays mid new → GrowsBy old new bytes
+grown_until_finished None mid new bytes h k = tt
+grown_until_finished (Some before) mid new bytes h k = subst (λ (m : Option (List ℕ)). Stays m new) h k
 
 all_in_front : (o p : Outlet) (bytes : List ℕ) → GrowsBy o.written p.written bytes → GrowsByFront o p bytes
 all_in_front o p bytes h = (length bytes, omega arith, subst (λ (b : List ℕ). GrowsBy o.written p.written b) (sym (take-length bytes)) h)
@@ -47,10 +35,10 @@ all_in_front o p bytes h = (length bytes, omega arith, subst (λ (b : List ℕ).
 pub closed : {K : Type 0} (seen : K → Outlet) (o m p : K) (end : End) (bytes : List ℕ) → GrowsBy (seen o).written (seen m).written bytes → (0 < length bytes → (seen m).settled ≡ false) → (seen m).faults ≡ (seen o).faults
     → (r : Result DeliveryOutcome Failure) → Closed end r (seen m) (seen p) → Delivers seen (Given end bytes) r o p
 closed seen o m p end bytes grows unsettled steady (Ok (said.Gave e)) h =
-    (h.0, record { grown = stays_grown (seen o).written (seen m).written (seen p).written bytes grows h.1; settled = h.2; steady = h.3 ∙ steady })
+    (h.0, record { grown = grown_until_finished (seen o).written (seen m).written (seen p).written bytes grows h.1; settled = h.2; steady = h.3 ∙ steady })
 closed seen o m p end bytes grows unsettled steady (Ok (said.Refused why line)) h = absurd h
 closed seen o m p end bytes grows unsettled steady (Err failures.WriteFault) h = record {
-  grown = all_in_front (seen o) (seen p) bytes (stays_grown (seen o).written (seen m).written (seen p).written bytes grows h.0);
+  grown = all_in_front (seen o) (seen p) bytes (grown_until_finished (seen o).written (seen m).written (seen p).written bytes grows h.0);
   unsettled = λ some. h.1 ∙ unsettled some;
   failed = subst (λ (n : ℕ). HasRisen n (seen p).faults) steady h.2;
 }
@@ -79,7 +67,7 @@ module _ {K : Type 0} (seen : K → Outlet) (o p : K) (end : End) (bytes : List 
   stream_fails Short failures.NoMemory h = record { grown = front h.0; steady = h.1 }
     where
       nothing : (q : K) → q ≡ o → GrowsByFront (seen o) (seen q) bytes
-      nothing q same = subst (λ (x : K). GrowsByFront (seen o) (seen x) bytes) (sym same) (0, omega arith, grown_by_none (seen o).written)
+      nothing q same = subst (λ (x : K). GrowsByFront (seen o) (seen x) bytes) (sym same) (0, omega arith, GrowsBy-nothing (seen o).written)
 
       front : (p ≡ o) ⊎ (Short × GrowsByFront (seen o) (seen p) bytes) → GrowsByFront (seen o) (seen p) bytes
       front (inl same) = nothing p same

@@ -1,6 +1,6 @@
 -- What is answered to a text, by what a job reads and asks. Nothing is said here of where the text comes from or where the
 -- answer goes.
-use Rattle.std.specs.Prelude.{◌≡◌, ◌≤◌, ◌<◌, ◌⊎◌, ℕ, List, [], ◌++◌, length, codes, Option, Some, None}
+use Rattle.std.specs.Prelude.{◌≡◌, ◌≤◌, ◌<◌, ◌⊎◌, ℕ, List, [], ◌++◌, length, codes, Option, IfSome, IsSomeAnd}
 use Rattle.command_words.specs.declared.reading.BareJob.{BareJob}
 use Rattle.command_words.specs.declared.reading.BareJob.TheVariants as bare
 use Rattle.command_words.specs.declared.reading.DocumentJob.{DocumentJob}
@@ -18,6 +18,7 @@ use Rattle.model_core.specs.Text.Canonical.{canonical}
 use Rattle.model_core.specs.Ranges.Narrowed.{IsNarrowed}
 use Rattle.model_core.specs.Rules.Fuse.{Fused}
 use Rattle.model_core.specs.Rules.Reduction.{RuleApplication}
+use Rattle.model_core.specs.Rules.Verdict.{verdict}
 use Rattle.model_core.specs.Saved.SavedRun.{SavedRun}
 use Rattle.answer_delivery.specs.declared.answer.Answer.{Answer}
 use Rattle.answer_delivery.specs.declared.complaint.Complaint.{Complaint}
@@ -36,7 +37,7 @@ use Rattle.job_answers.specs.RunAnswer.{run_answer, ExceedsRoom}
 use Rattle.job_answers.specs.ReplicateAnswer.{replicate_answer}
 use Rattle.job_answers.specs.SaveAnswer.{save_answer}
 use Rattle.job_answers.specs.ResumeAnswer.{resume_answer, ResumedExceedsRoom}
-use Rattle.job_answers.specs.CertifyAnswer.{certify_answer}
+use Rattle.job_answers.specs.CertifyAnswer.{answer_of_verdict}
 
 -- ---- what is answered for what was read, job by job
 
@@ -63,7 +64,7 @@ AnswersModel (models.Save options) g a = a ≡ save_answer g options
 
 -- `certify` says whether the certificate holds
 abbrev pub AnswersDocument : DocumentJob → EventGraph → List RuleApplication → EventGraph → Answer → Type 0
-AnswersDocument documents.Certify original applications reduced a = a ≡ certify_answer original applications reduced
+AnswersDocument documents.Certify original applications reduced a = a ≡ answer_of_verdict (verdict original applications reduced)
 
 -- `resume` writes the history of the saved run from there on
 abbrev pub AnswersSaved : SavedJob → EventGraph → SavedRun → Answer → Type 0
@@ -98,28 +99,15 @@ pub record IsRefused (IsSo : Complaint → ℕ → Type 0) (a : Answer) : Type 0
   pub what : Complaint
   pub at : ℕ
   pub complaint : IsSo what at
-  pub told : a ≡ refused (byte_line at (message_of what))
-
--- the text reads as a document that has this answer
-pub record AnswersDocumentText (job : DocumentJob) (text : List ℕ) (a : Answer) : Type 0 where
-  pub original : EventGraph
-  pub applications : List RuleApplication
-  pub reduced : EventGraph
-  pub reads : ReadsDocument text original applications reduced
-  pub told : AnswersDocument job original applications reduced a
-
--- the text reads as a saved run that has this answer
-pub record AnswersSavedText (job : SavedJob) (text : List ℕ) (a : Answer) : Type 0 where
-  pub model : EventGraph
-  pub run : SavedRun
-  pub reads : ReadsSaved text model run
-  pub told : AnswersSaved job model run a
+  pub refuses : a ≡ refused (byte_line at (message_of what))
 
 -- the text is refused, or it reads as something that has this answer; of a job that reads nothing there is an answer alone
 abbrev pub Responds : Reading → List ℕ → Answer → Type 0
 Responds (readings.Model job) text a = IsRefused (IsComplaint text) a ⊎ ((g : EventGraph) × Reads text g × AnswersModel job g a)
-Responds (readings.Document job) text a = IsRefused (IsDocumentComplaint text) a ⊎ AnswersDocumentText job text a
-Responds (readings.Saved job) text a = IsRefused (IsSavedComplaint text) a ⊎ AnswersSavedText job text a
+Responds (readings.Document job) text a =
+    IsRefused (IsDocumentComplaint text) a
+    ⊎ ((g : EventGraph) × (applications : List RuleApplication) × (h : EventGraph) × ReadsDocument text g applications h × AnswersDocument job g applications h a)
+Responds (readings.Saved job) text a = IsRefused (IsSavedComplaint text) a ⊎ ((g : EventGraph) × (s : SavedRun) × ReadsSaved text g s × AnswersSaved job g s a)
 Responds (readings.Nothing job) text a = AnswersAlone job a
 
 -- where memory may be refused after a front of the answer's bytes
@@ -133,13 +121,11 @@ MayStopShort (readings.Nothing job) text = ⊥
 
 -- the text has at most so many bytes
 abbrev pub IsWithin : Option ℕ → List ℕ → Type 0
-IsWithin None text = Unit {0}
-IsWithin (Some limit) text = length text ≤ limit
+IsWithin limit text = IfSome limit (λ most. length text ≤ most)
 
 -- the text has more bytes than that
 abbrev pub IsOver : Option ℕ → List ℕ → Type 0
-IsOver None text = ⊥
-IsOver (Some limit) text = limit < length text
+IsOver limit text = IsSomeAnd limit (λ most. most < length text)
 
 -- the answer to a text
 abbrev pub Answers : Reading → List ℕ → Answer → Type 0

@@ -2,7 +2,7 @@
 use Rattle.std.specs.Prelude.{ℕ, List, ◌++◌, codes, decimal}
 use Rattle.model_core.specs.EventGraph.{EventGraph}
 use Rattle.model_core.specs.Rules.Reduction.{RuleApplication, Chain}
-use Rattle.model_core.specs.Rules.Verdict.{Verdict, Sound, Rejected, Differs, verdict}
+use Rattle.model_core.specs.Rules.Verdict.{Verdict, Sound, Rejected, Differs}
 use Rattle.model_core.specs.Run.Same.{Same}
 use Rattle.model_core.specs.Static.Reading.{ReadsDocument}
 use Rattle.answer_delivery.specs.declared.answer.Answer.{Answer}
@@ -15,9 +15,6 @@ abbrev pub answer_of_verdict : Verdict → Answer
 answer_of_verdict Sound = Given ends.Done (codes "sound\n")
 answer_of_verdict (Rejected line) = Given ends.Rejected (codes "rejected " ++ decimal line ++ codes "\n")
 answer_of_verdict Differs = Given ends.Rejected (codes "differs\n")
-
-abbrev pub certify_answer : EventGraph → List RuleApplication → EventGraph → Answer
-certify_answer original applications reduced = answer_of_verdict (verdict original applications reduced)
 
 -- The applications lead from the first model of the document to the second, and the two mean the same.
 pub record Certifies (text : List ℕ) : Type 0 where

@@ -23,16 +23,11 @@ IsFrontComplaint text tokens complaints.TooDeep at = too_deep_at OPENINGS_MAX (f
 IsFrontComplaint text tokens complaints.Unexpected at = (too_deep_at OPENINGS_MAX (front_to_end tokens) ≡ None) × IsUnexpectedAt text (front_to_end tokens) at
 IsFrontComplaint text tokens what at = ⊥
 
--- the place at which tokens stop to begin a certificate
-abbrev pub IsCertificateComplaint : List ℕ → List Lexeme → Complaint → ℕ → Type 0
-IsCertificateComplaint text tokens complaints.Unexpected at = IsNoCertificateAt text tokens at
-IsCertificateComplaint text tokens what at = ⊥
-
 -- The complaint about the tokens of a document is that about the first of its parts that isn't spelled.
 pub data IsGrammarComplaint (text : List ℕ) (tokens : List Lexeme) (what : Complaint) (at : ℕ) : Type 0 where
   in_first : IsFrontComplaint text tokens what at → IsGrammarComplaint text tokens what at
   in_second : (first : WrittenModel) (left : List Lexeme) → BeginsWithModel tokens first left → IsFrontComplaint text left what at → IsGrammarComplaint text tokens what at
-  in_certificate : (first second : WrittenModel) (left last : List Lexeme) → BeginsWithModel tokens first left → BeginsWithModel left second last → IsCertificateComplaint text last what at → IsGrammarComplaint text tokens what at
+  in_certificate : (first second : WrittenModel) (left last : List Lexeme) → BeginsWithModel tokens first left → BeginsWithModel left second last → what ≡ complaints.Unexpected → IsNoCertificateAt text last at → IsGrammarComplaint text tokens what at
 
 -- The complaint about a document, at this byte: its first byte that begins no token; or else the complaint of its grammar;
 -- or else the static fault of its first model; or else that of its second.

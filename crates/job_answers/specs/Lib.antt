@@ -1,7 +1,7 @@
 pub mod DocumentComplaints
 pub mod SavedReading
 pub mod SavedComplaints
-pub mod Complained
+pub mod TextComplaints
 pub mod ReduceAnswer
 pub mod RewrittenAnswer
 pub mod StartingValues

@@ -5,7 +5,7 @@ use Rattle.command_words.specs.declared.resume_options.ResumeOptions.{ResumeOpti
 use Rattle.model_core.specs.EventGraph.{EventGraph}
 use Rattle.model_core.specs.Saved.SavedRun.{SavedRun, saved_moment, history_from}
 use Rattle.answer_delivery.specs.declared.answer.Answer.{Answer}
-use Rattle.job_answers.specs.RunAnswer.{answer_of_look, refused_or, ExceedsRoomFrom, FitsRoomFrom}
+use Rattle.job_answers.specs.RunAnswer.{answer_of_look, refused_or, ExceedsRoomFrom}
 
 -- ---- the answer
 
@@ -27,10 +27,6 @@ resume_refusal s until events =
 abbrev pub resume_answer : EventGraph → SavedRun → ℕ → ℕ → Answer
 resume_answer g s until events = refused_or (resume_refusal s until events) (answer_of_look g until events (history_from g s until events))
 
--- ---- the room, which is that for all pending events at least
-
+-- a run that goes on exceeds its room, which is that for all pending events at least
 abbrev pub ResumedExceedsRoom : EventGraph → SavedRun → ResumeOptions → Type 0
 ResumedExceedsRoom g s o = ExceedsRoomFrom g o.until s.seed o.events (saved_moment g s) (max o.room (length s.pending))
-
-abbrev pub ResumedFitsRoom : EventGraph → SavedRun → ℕ → ℕ → ℕ → Type 0
-ResumedFitsRoom g s until events room = FitsRoomFrom g until s.seed events (saved_moment g s) (max room (length s.pending))

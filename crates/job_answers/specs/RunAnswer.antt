@@ -50,15 +50,6 @@ pub record ExceedsRoomFrom (g : EventGraph) (until seed events : ℕ) (m : Momen
   pub due : next.entry.time ≤ until
   pub exceeds : room < scheduled_by (vertex_at g next.entry.vertex).edges + length here.moment.now.pending
 
--- at each step from this moment within the budget what is pending and what the vertex of the event that is due schedules
--- have room together
-abbrev pub FitsRoomFrom : EventGraph → ℕ → ℕ → ℕ → Moment → ℕ → Type 0
-FitsRoomFrom g until seed events m room = (n : ℕ) (here : Reached Moment) (next : EntryAndRest) → n < events → reached_from g seed until n m ≡ Some here
-    → next_entry here.moment.now.pending ≡ Some next → next.entry.time ≤ until → scheduled_by (vertex_at g next.entry.vertex).edges + length here.moment.now.pending ≤ room
-
--- a run from its beginning exceeds its room, or fits it
+-- a run exceeds its room from its beginning
 abbrev pub ExceedsRoom : EventGraph → ℕ → ℕ → ℕ → List ℤ → ℕ → Type 0
 ExceedsRoom g until seed events starts room = ExceedsRoomFrom g until seed events (start g starts) room
-
-abbrev pub RunFitsRoom : EventGraph → ℕ → ℕ → ℕ → List ℤ → ℕ → Type 0
-RunFitsRoom g until seed events starts room = FitsRoomFrom g until seed events (start g starts) room

@@ -14,15 +14,10 @@ use Rattle.answer_delivery.specs.declared.complaint.Complaint.{Complaint}
 use Rattle.answer_delivery.specs.declared.complaint.Complaint.TheVariants as complaints
 use Rattle.job_answers.specs.DocumentComplaints.{IsFrontComplaint}
 
--- the place at which tokens stop to begin a snapshot
-abbrev pub IsSnapshotComplaint : List ℕ → List Lexeme → Complaint → ℕ → Type 0
-IsSnapshotComplaint text tokens complaints.Unexpected at = IsNoSnapshotAt text tokens at
-IsSnapshotComplaint text tokens what at = ⊥
-
 -- The complaint about the tokens of a saved document is that about the first of its two parts that isn't spelled.
 pub data IsSavedGrammarComplaint (text : List ℕ) (tokens : List Lexeme) (what : Complaint) (at : ℕ) : Type 0 where
   in_model : IsFrontComplaint text tokens what at → IsSavedGrammarComplaint text tokens what at
-  in_snapshot : (model : WrittenModel) (left : List Lexeme) → BeginsWithModel tokens model left → IsSnapshotComplaint text left what at → IsSavedGrammarComplaint text tokens what at
+  in_snapshot : (model : WrittenModel) (left : List Lexeme) → BeginsWithModel tokens model left → what ≡ complaints.Unexpected → IsNoSnapshotAt text left at → IsSavedGrammarComplaint text tokens what at
 
 -- The complaint about a saved document, at this byte: its first byte that begins no token; or else the complaint of its
 -- grammar; or else the static fault of its model; or else the first part of its snapshot that is bad.

@@ -18,4 +18,4 @@ pub record ReadsSaved (text : List ℕ) (g : EventGraph) (s : SavedRun) : Type 0
   pub spells : SpellsSaved text model snapshot
   pub accepted : Accepted model g
   pub good : bad_at g snapshot ≡ None
-  pub stands : saved_run g snapshot ≡ s
+  pub means : saved_run g snapshot ≡ s

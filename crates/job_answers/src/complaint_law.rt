@@ -11,7 +11,7 @@ ghost use Rattle.answer_delivery.specs.declared.complaint.Complaint.{Complaint};
 ghost use Rattle.answer_delivery.specs.declared.status.Status.{Status};
 ghost use Rattle.job_answers.specs.Answers.{Answers};
 ghost use Rattle.answer_delivery.specs.Complaints.{IsComplaint};
-ghost use Rattle.job_answers.specs.Complained.{HasComplaint};
+ghost use Rattle.job_answers.specs.TextComplaints.{HasComplaint};
 ghost use Rattle.answer_delivery.specs.Statuses.{status_of_answer};
 ghost use Rattle.job_answers.specs.Inner.TextFacts.{TextFacts};
 

@@ -12,7 +12,7 @@ ghost use Rattle.answer_delivery.specs.declared.answer.Answer.{Answer};
 ghost use Rattle.answer_delivery.specs.declared.complaint.Complaint.{Complaint};
 ghost use Rattle.job_answers.specs.Answers.{AnswersSaved, Answers};
 ghost use Rattle.job_answers.specs.DocumentComplaints.{IsDocumentComplaint};
-ghost use Rattle.job_answers.specs.Complained.{HasDocumentComplaint, HasSavedComplaint};
+ghost use Rattle.job_answers.specs.TextComplaints.{HasDocumentComplaint, HasSavedComplaint};
 ghost use Rattle.job_answers.specs.SavedComplaints.{IsSavedComplaint};
 ghost use Rattle.job_answers.specs.SavedReading.{ReadsSaved};
 

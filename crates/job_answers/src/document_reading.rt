@@ -5,7 +5,7 @@ ghost use Rattle.model_core.specs.Text.DocumentText.{SpellsDocument};
 ghost use Rattle.model_core.specs.Static.Reading.{ReadsDocument};
 ghost use Rattle.model_core.specs.Code.Views.{graph_of, application_of};
 ghost use Rattle.model_core.specs.Code.WrittenViews.{written_model};
-ghost use Rattle.answer_delivery.specs.declared.complaint.Complaint.{Complaint as Complained};
+ghost use Rattle.answer_delivery.specs.declared.complaint.Complaint.{Complaint};
 ghost use Rattle.job_answers.specs.DocumentComplaints.{IsDocumentComplaint};
 
 use crate::reading_error::ReadingError;
@@ -40,7 +40,7 @@ fn parts(alloc: Global, pieces: &Pieces<'_>) -> Result<RawDocument, ReadingError
     ensures ok { IfOk result
         (λ d. SpellsDocument pieces.now.text.now (written_model d.first)
         (map application_of d.applications) (written_model d.second)) }
-    ensures complaint { (what : Complained) (at : ℕ) → result ≡ Err (ReadingError.At what at)
+    ensures complaint { (what : Complaint) (at : ℕ) → result ≡ Err (ReadingError.At what at)
         → IsDocumentComplaint pieces.now.text.now what at }
 {
     let (first, behind_first) = parse_front_pieces(alloc, pieces, 0)?;
@@ -71,7 +71,7 @@ fn written_parts(alloc: Global, text: &[u8]) -> Result<RawDocument, ReadingError
     ensures ok { IfOk result
         (λ d. SpellsDocument text.now (written_model d.first) (map application_of d.applications)
         (written_model d.second)) }
-    ensures complaint { (what : Complained) (at : ℕ) → result ≡ Err (ReadingError.At what at)
+    ensures complaint { (what : Complaint) (at : ℕ) → result ≡ Err (ReadingError.At what at)
         → IsDocumentComplaint text.now what at }
 {
     let pieces = pieces(alloc, text)?;
@@ -85,7 +85,7 @@ pub fn document_of(alloc: Global, text: &[u8]) -> Result<Document, ReadingError>
     ensures ok { IfOk result
         (λ d. ReadsDocument text.now (graph_of d.original) (map application_of d.applications)
         (graph_of d.reduced)) }
-    ensures complaint { (what : Complained) (at : ℕ) → result ≡ Err (ReadingError.At what at)
+    ensures complaint { (what : Complaint) (at : ℕ) → result ≡ Err (ReadingError.At what at)
         → IsDocumentComplaint text.now what at }
 {
     let RawDocument {

@@ -8,7 +8,7 @@ mod commands;
 mod complaint_law;
 mod document_law;
 mod document_reading;
-mod history_telling;
+mod history_writing;
 mod job_laws;
 mod last_text;
 mod model_reading;

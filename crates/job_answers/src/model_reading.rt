@@ -3,7 +3,7 @@
 ghost use Rattle.std.specs.Prelude.{◌≡◌, ◌≤◌, ℕ, length, IfOk};
 ghost use Rattle.model_core.specs.Static.Reading.{Reads};
 ghost use Rattle.model_core.specs.Code.Views.{graph_of};
-ghost use Rattle.answer_delivery.specs.declared.complaint.Complaint.{Complaint as Complained};
+ghost use Rattle.answer_delivery.specs.declared.complaint.Complaint.{Complaint};
 ghost use Rattle.answer_delivery.specs.Complaints.{IsComplaint};
 
 use crate::reading_error::ReadingError;
@@ -19,7 +19,7 @@ use std::alloc::Global;
 pub fn model_of(alloc: Global, text: &[u8]) -> Result<Model, ReadingError>
     requires { length text.now ≤ TEXT_MAX }
     ensures ok { IfOk result (λ model. Reads text.now (graph_of model)) }
-    ensures complaint { (what : Complained) (at : ℕ) → result ≡ Err (ReadingError.At what at)
+    ensures complaint { (what : Complaint) (at : ℕ) → result ≡ Err (ReadingError.At what at)
         → IsComplaint text.now what at }
 {
     let pieces = pieces(alloc, text)?;

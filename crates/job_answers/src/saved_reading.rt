@@ -7,7 +7,6 @@ ghost use Rattle.model_core.specs.Saved.SavedRun.{IsGood};
 ghost use Rattle.model_core.specs.Text.DocumentText.{BeginsWithModel};
 ghost use Rattle.model_core.specs.Text.SnapshotGrammar.{WrittenSnapshot, IsSnapshot};
 ghost use Rattle.model_lex.specs.PiecesOfText.{pieces_lexemes};
-ghost use Rattle.answer_delivery.specs.declared.complaint.Complaint.{Complaint as Complained};
 ghost use Rattle.job_answers.specs.SavedComplaints.{IsSavedComplaint};
 ghost use Rattle.job_answers.specs.SavedReading.{ReadsSaved};
 
@@ -37,7 +36,7 @@ fn parts(alloc: Global, pieces: &Pieces<'_>) -> Result<(RawModel, usize), Readin
         (drop r.1 (pieces_lexemes pieces.now))) }
     ensures ends { IfOk result
         (λ r. (w : WrittenSnapshot) × IsSnapshot (drop r.1 (pieces_lexemes pieces.now)) w) }
-    ensures complaint { (what : Complained) (at : ℕ) → result ≡ Err (ReadingError.At what at)
+    ensures complaint { (what : Complaint) (at : ℕ) → result ≡ Err (ReadingError.At what at)
         → IsSavedComplaint pieces.now.text.now what at }
 {
     let (model, behind) = parse_front_pieces(alloc, pieces, 0)?;
@@ -58,7 +57,7 @@ fn parts(alloc: Global, pieces: &Pieces<'_>) -> Result<(RawModel, usize), Readin
 fn saved_in(alloc: Global, pieces: &Pieces<'_>) -> Result<SavedDocument, ReadingError>
     requires { length pieces.now.text.now ≤ DOCUMENT_MAX }
     ensures ok { IfOk result (λ d. ReadsSaved pieces.now.text.now (graph_of d.model) d.snapshot) }
-    ensures complaint { (what : Complained) (at : ℕ) → result ≡ Err (ReadingError.At what at)
+    ensures complaint { (what : Complaint) (at : ℕ) → result ≡ Err (ReadingError.At what at)
         → IsSavedComplaint pieces.now.text.now what at }
 {
     let (raw, behind) = parts(alloc, pieces)?;
@@ -87,7 +86,7 @@ pub fn saved_document_of(alloc: Global, text: &[u8]) -> Result<SavedDocument, Re
     requires { length text.now ≤ DOCUMENT_MAX }
     ensures ok { IfOk result (λ d. ReadsSaved text.now (graph_of d.model) d.snapshot) }
     ensures good { IfOk result (λ d. IsGood (graph_of d.model) d.snapshot) }
-    ensures complaint { (what : Complained) (at : ℕ) → result ≡ Err (ReadingError.At what at)
+    ensures complaint { (what : Complaint) (at : ℕ) → result ≡ Err (ReadingError.At what at)
         → IsSavedComplaint text.now what at }
 {
     let pieces = pieces(alloc, text)?;

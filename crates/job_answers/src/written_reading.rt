@@ -3,7 +3,7 @@
 ghost use Rattle.std.specs.Prelude.{◌≡◌, ◌≤◌, ℕ, length, IfOk};
 ghost use Rattle.model_core.specs.Static.Reading.{Reads};
 ghost use Rattle.model_core.specs.Code.Views.{graph_of};
-ghost use Rattle.answer_delivery.specs.declared.complaint.Complaint.{Complaint as Complained};
+ghost use Rattle.answer_delivery.specs.declared.complaint.Complaint.{Complaint};
 ghost use Rattle.answer_delivery.specs.Complaints.{IsComplaint};
 
 use crate::reading_error::ReadingError;
@@ -18,7 +18,7 @@ use std::alloc::Global;
 pub(crate) fn read_as_written(alloc: Global, pieces: &Pieces<'_>) -> Result<Model, ReadingError>
     requires { length pieces.now.text.now ≤ TEXT_MAX }
     ensures ok { IfOk result (λ model. Reads pieces.now.text.now (graph_of model)) }
-    ensures complaint { (what : Complained) (at : ℕ) → result ≡ Err (ReadingError.At what at)
+    ensures complaint { (what : Complaint) (at : ℕ) → result ≡ Err (ReadingError.At what at)
         → IsComplaint pieces.now.text.now what at }
 {
     let raw = parse_pieces(alloc, pieces)?;

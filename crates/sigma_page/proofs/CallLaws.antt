@@ -34,12 +34,12 @@ module _ {S K : Type 0} (source : S → Inlet) (sink : K → Outlet) (words : Li
   -- the call over devices, which began with this input and with nothing written
   pub over_bytes : source i ≡ inlet_of input → sink o ≡ outlet_of [] → sink e ≡ outlet_of [] → (sink p).written ≡ Some output → (sink f).written ≡ Some errors
       → Ends source sink sink words i j o p e f status → KeepsPromises (λ s. status ≡ s) words (source i) (sink o) (sink p) → EndsOverBytes words input output errors status
-  over_bytes begun fresh silent taken told ends kept = record {
+  over_bytes begun fresh silent taken errors_are ends kept = record {
     input_after = source j;
     output_after = sink p;
     errors_after = sink f;
     output_taken = taken;
-    errors_taken = told;
+    errors_taken = errors_are;
     ends = subst (λ (x : Inlet). Ends (λ i. i) (λ o. o) (λ e. e) words x (source j) (outlet_of []) (sink p) (outlet_of []) (sink f) status) begun
         (subst (λ (x : Outlet). Ends (λ i. i) (λ o. o) (λ e. e) words (source i) (source j) x (sink p) (outlet_of []) (sink f) status) fresh
         (subst (λ (x : Outlet). Ends (λ i. i) (λ o. o) (λ e. e) words (source i) (source j) (sink o) (sink p) x (sink f) status) silent

@@ -10,7 +10,7 @@ use Rattle.answer_delivery.specs.declared.status.End.{End}
 use Rattle.answer_delivery.specs.declared.status.End.TheVariants as ends
 use Rattle.answer_delivery.specs.declared.status.Refusal.{Refusal}
 use Rattle.answer_delivery.specs.declared.status.Refusal.TheVariants as refusals
-use Rattle.sigma_top.specs.StatusTable.{IsReadToEnd, IsReadThrough, IsReadInPart, WritesAnswer, Refuses, FailsToRead, FailsToWrite, HasBegun, LacksMemory, ForJob, EndsWithAnswer, EndsWithRefusal, Ends}
+use Rattle.sigma_top.specs.StatusTable.{IsReadToEnd, IsReadThrough, IsReadInPart, WritesAnswer, Refuses, FailsToRead, FailsToWrite, WritesFront, LacksMemory, ForJob, EndsWithAnswer, EndsWithRefusal, Ends}
 
 abbrev inlet : Inlet → Inlet
 inlet x = x
@@ -49,24 +49,25 @@ module _ {S K : Type 0} (source : S → Inlet) (sink : K → Outlet) where
     read_failed : FailsToRead source sink reading i j o p → FailsToRead inlet outlet reading (source i) (source j) (sink o) (sink p)
     read_failed h = record { reads_text = h.reads_text; input_read = read_in_part (limit_of reading) i j h.input_read; input_failed = h.input_failed; output_untouched = ap sink h.output_untouched }
 
+    abbrev front_written : WritesFront source sink reading i o p → WritesFront inlet outlet reading (source i) (sink o) (sink p)
+    front_written h = record { end = h.end; bytes = h.bytes; answer = h.answer; output_grown = h.output_grown }
+
     write_failed : FailsToWrite source sink reading i j o p → FailsToWrite inlet outlet reading (source i) (source j) (sink o) (sink p)
     write_failed h = record {
-      end = h.end;
-      bytes = h.bytes;
-      answer = h.answer;
+      front = front_written h.front;
       input_read = read_to_end (limit_of reading) i j h.input_read;
       input_steady = h.input_steady;
-      output_grown = h.output_grown;
       output_unsettled = h.output_unsettled;
       output_failed = h.output_failed;
     }
 
-    begun_as_seen : (p ≡ o) ⊎ HasBegun source sink reading i o p → (sink p ≡ sink o) ⊎ HasBegun inlet outlet reading (source i) (sink o) (sink p)
-    begun_as_seen (inl same) = inl (ap sink same)
-    begun_as_seen (inr h) = inr (record { end = h.end; bytes = h.bytes; answer = h.answer; short = h.short; output_grown = h.output_grown })
-
     memory_lacked : LacksMemory source sink reading i j o p → LacksMemory inlet outlet reading (source i) (source j) (sink o) (sink p)
-    memory_lacked h = record { input_read = read_in_part (limit_of reading) i j h.input_read; input_steady = h.input_steady; output_grown = begun_as_seen h.output_grown; output_steady = h.output_steady }
+    memory_lacked h = record {
+      input_read = read_in_part (limit_of reading) i j h.input_read;
+      input_steady = h.input_steady;
+      output_grown = elim h.output_grown [ inl same ↦ inl (ap sink same) | inr begun ↦ inr (front_written begun.0, begun.1) ];
+      output_steady = h.output_steady;
+    }
 
 module _ {S K E : Type 0} (source : S → Inlet) (sink : K → Outlet) (errors : E → Outlet) (words : List (List ℕ)) (i j : S) (o p : K) (e f : E) where
   given_as_seen : (end : End) → EndsWithAnswer source sink errors words i j o p e f end → EndsWithAnswer inlet outlet outlet words (source i) (source j) (sink o) (sink p) (errors e) (errors f) end

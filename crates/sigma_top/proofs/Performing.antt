@@ -21,19 +21,19 @@ use Rattle.job_answers.specs.Answers.{Responds, MayStopShort, HasNothingToWrite,
 use Rattle.answer_delivery.specs.Delivery.{Delivers, DeliversSome}
 use Rattle.sigma_top.specs.declared.text_taking.TakenText.{TakenText}
 use Rattle.sigma_top.specs.declared.text_taking.TakenText.TheVariants as taken
-use Rattle.sigma_top.specs.StatusTable.{text_of, IsReadThrough, RepliesToInput, HasBegun}
+use Rattle.sigma_top.specs.StatusTable.{text_of, IsReadThrough, RepliesToInput, WritesFront}
 use Rattle.sigma_top.specs.Inner.CallSteps.{TakesText, AnswersInput}
 use Rattle.sigma_top.proofs.InputRead.{read_through, read_in_part}
 
 -- ---- an answer that is given has bytes, unless its job may have none
 
 given_has_bytes : (reading : Reading) → KeepsAnswerLaws reading → (text : List ℕ) (end : End) (bytes : List ℕ) → Responds reading text (Given end bytes) → HasNothingToWrite reading bytes ⊎ (0 < length bytes)
-given_has_bytes (readings.Model job) laws text end bytes (inl h) = let e = h.told in absurd cc
+given_has_bytes (readings.Model job) laws text end bytes (inl h) = let e = h.refuses in absurd cc
 given_has_bytes (readings.Model job) laws text end bytes (inr h) = laws.has_bytes h.0 end bytes h.2
-given_has_bytes (readings.Document job) laws text end bytes (inl h) = let e = h.told in absurd cc
-given_has_bytes (readings.Document job) laws text end bytes (inr h) = laws.has_bytes (h.original, h.applications, h.reduced) end bytes h.told
-given_has_bytes (readings.Saved job) laws text end bytes (inl h) = let e = h.told in absurd cc
-given_has_bytes (readings.Saved job) laws text end bytes (inr h) = laws.has_bytes (h.model, h.run) end bytes h.told
+given_has_bytes (readings.Document job) laws text end bytes (inl h) = let e = h.refuses in absurd cc
+given_has_bytes (readings.Document job) laws text end bytes (inr h) = laws.has_bytes (h.0, h.1, h.2) end bytes h.4
+given_has_bytes (readings.Saved job) laws text end bytes (inl h) = let e = h.refuses in absurd cc
+given_has_bytes (readings.Saved job) laws text end bytes (inr h) = laws.has_bytes (h.0, h.1) end bytes h.3
 given_has_bytes (readings.Nothing job) laws text end bytes h = laws.has_bytes tt end bytes h
 
 -- ---- the answer to the text is that to the input
@@ -54,11 +54,11 @@ long_text (Some limit) None over = (zeros (limit + 1), tt, omega (arith, zeros-l
 long_text (Some limit) (Some bytes) over = (bytes, refl, over)
 
 refused_long : (reading : Reading) (i : Inlet) → IfSome (text_of (limit_of reading) i.left) (IsOver (limit_of reading)) → RepliesToInput reading i (refused too_long)
-refused_long reading i over = let long = long_text (limit_of reading) i.left over in record { text = long.0; told = long.1; answers = inl (long.2, refl) }
+refused_long reading i over = let long = long_text (limit_of reading) i.left over in record { text = long.0; of_input = long.1; answers = inl (long.2, refl) }
 
 -- what was taken up to a limit that is the job's
 pub taken_within_limit : {S : Type 0} (source : S → Inlet) (reading : Reading) (i j : S) (limit : Option ℕ) (r s : Result TakenText Failure) → limit ≡ limit_of reading → r ≡ s → TakesText source limit r i j → TakesText source (limit_of reading) s i j
-taken_within_limit source reading i j limit r s known is h = subst (λ (l : Option ℕ). TakesText source l s i j) known (subst (λ (x : Result TakenText Failure). TakesText source limit x i j) is h)
+taken_within_limit source reading i j limit r s same is h = subst (λ (l : Option ℕ). TakesText source l s i j) same (subst (λ (x : Result TakenText Failure). TakesText source limit x i j) is h)
 
 module _ {S K : Type 0} (source : S → Inlet) (sink : K → Outlet) (reading : Reading) (i j : S) (o : K) where
   -- no text was taken
@@ -72,29 +72,29 @@ module _ {S K : Type 0} (source : S → Inlet) (sink : K → Outlet) (reading : 
     -- ---- the text is over the limit
 
     module _ (h : TakesText source (limit_of reading) (Ok taken.TooLong) i j) where
-      long_told : (r : Result DeliveryOutcome Failure) → Delivers sink (refused too_long) r o p → AnswersInput source sink reading r i j o p
-      long_told (Ok (said.Gave end)) k = absurd k
-      long_told (Ok (said.Refused why line)) k = record {
+      long_refused : (r : Result DeliveryOutcome Failure) → Delivers sink (refused too_long) r o p → AnswersInput source sink reading r i j o p
+      long_refused (Ok (said.Gave end)) k = absurd k
+      long_refused (Ok (said.Refused why line)) k = record {
         answer = subst (λ (w : Refusal). RepliesToInput reading (source i) (Refused w line)) (sym k.0) (subst (λ (l : List ℕ). RepliesToInput reading (source i) (refused l)) (sym k.1) (refused_long reading (source i) h.0));
         input_read = h.1;
         input_steady = h.2;
         output_untouched = k.2;
       }
-      long_told (Err f) k = absurd k
+      long_refused (Err f) k = absurd k
 
       short_of_memory : p ≡ o → AnswersInput source sink reading (Err failures.NoMemory) i j o p
       short_of_memory same = record { input_read = read_in_part source i j (limit_of reading) h.1; input_steady = h.2; output_grown = inl same; output_steady = ap (λ (k : K). (sink k).faults) same }
 
       pub long_input_refused : (made : Result Answer NoMemory) (r : Result DeliveryOutcome Failure) → IfOk made (λ a. a ≡ refused too_long)
           → MatchResult made (λ a. Delivers sink a r o p × (r ≢ Err failures.NoMemory)) (λ e. (r ≡ Err failures.NoMemory) × (p ≡ o)) → AnswersInput source sink reading r i j o p
-      long_input_refused (Ok a) r is k = long_told r (subst (λ (b : Answer). Delivers sink b r o p) is k.0)
+      long_input_refused (Ok a) r is k = long_refused r (subst (λ (b : Answer). Delivers sink b r o p) is k.0)
       long_input_refused (Err e) r is k = subst (λ (x : Result DeliveryOutcome Failure). AnswersInput source sink reading x i j o p) (sym k.0) (short_of_memory k.1)
 
     -- ---- the text was answered
 
     module _ (laws : KeepsAnswerLaws reading) (text : List ℕ) (h : TakesText source (limit_of reading) (Ok (taken.Whole text)) i j) where
       replies : (a : Answer) → Responds reading text a → RepliesToInput reading (source i) a
-      replies a x = record { text = text; told = h.0; answers = inr (h.1, x) }
+      replies a x = record { text = text; of_input = h.0; answers = inr (h.1, x) }
 
       through : IsReadThrough source (limit_of reading) i j
       through = read_through source i j (limit_of reading) text h.0 h.1 h.2
@@ -111,12 +111,9 @@ module _ {S K : Type 0} (source : S → Inlet) (sink : K → Outlet) (reading : 
       }
       in_memory (Given end bytes) (Ok (said.Refused why line)) x k short = absurd k
       in_memory (Given end bytes) (Err failures.WriteFault) x k short = record {
-        end = end;
-        bytes = bytes;
-        answer = replies (Given end bytes) x;
+        front = record { end = end; bytes = bytes; answer = replies (Given end bytes) x; output_grown = k.grown };
         input_read = h.2;
         input_steady = h.3;
-        output_grown = k.grown;
         output_unsettled = elim (given_has_bytes reading laws text end bytes x) [ inl none ↦ inl none | inr some ↦ inr (k.unsettled some) ];
         output_failed = k.failed;
       }
@@ -127,14 +124,14 @@ module _ {S K : Type 0} (source : S → Inlet) (sink : K → Outlet) (reading : 
         output_steady = k.steady;
       }
         where
-          begun : (p ≡ o) ⊎ MayStopShort reading text → (p ≡ o) ⊎ HasBegun source sink reading i o p
+          begun : (p ≡ o) ⊎ MayStopShort reading text → (p ≡ o) ⊎ ((front : WritesFront source sink reading i o p) × MayStopShort reading front.answer.text)
           begun (inl same) = inl same
-          begun (inr may) = inr (record { end = end; bytes = bytes; answer = record { text = text; told = h.0; answers = inr (h.1, x) }; short = may; output_grown = k.grown })
+          begun (inr may) = inr (record { end = end; bytes = bytes; answer = record { text = text; of_input = h.0; answers = inr (h.1, x) }; output_grown = k.grown }, may)
       in_memory (Given end bytes) (Err failures.Usage) x k short = absurd k
       in_memory (Given end bytes) (Err failures.ReadFault) x k short = absurd k
       in_memory (Refused why line) (Ok (said.Gave end)) x k short = absurd k
-      in_memory (Refused why line) (Ok (said.Refused other told)) x k short = record {
-        answer = subst (λ (w : Refusal). RepliesToInput reading (source i) (Refused w told)) (sym k.0) (subst (λ (l : List ℕ). RepliesToInput reading (source i) (Refused why l)) (sym k.1) (replies (Refused why line) x));
+      in_memory (Refused why line) (Ok (said.Refused other shown)) x k short = record {
+        answer = subst (λ (w : Refusal). RepliesToInput reading (source i) (Refused w shown)) (sym k.0) (subst (λ (l : List ℕ). RepliesToInput reading (source i) (Refused why l)) (sym k.1) (replies (Refused why line) x));
         input_read = through;
         input_steady = h.3;
         output_untouched = k.2;

@@ -1,15 +1,15 @@
 -- From the job to the call, and from its table of statuses to its other clauses.
-use Rattle.std.proofs.Common.{◌≡◌, ◌⊎◌, inl, inr, ℕ, ℤ, List, [], Option, Some, None, Result, Ok, Err, refl, ap, sym, subst, ◌∙◌, arith}
-use Rattle.std.proofs.lemmas.List.{append-nil}
+use Rattle.std.proofs.Common.{◌≡◌, ◌⊎◌, inl, inr, ℕ, List, [], Option, Some, None, Result, Ok, Err, refl, ap, sym, subst, ◌∙◌}
 use Rattle.std.proofs.lemmas.Option.{same_Some}
-use Rattle.std.specs.Prelude.{max, length, IfSome}
+use Rattle.std.specs.Prelude.{IfSome}
 use Rattle.sig_base.specs.Faults.{HasRisen}
 use Rattle.sig_base.specs.Sink.{Outlet, GrowsBy}
+use Rattle.sig_base.proofs.SinkLemmas.{GrowsBy-nothing}
+use Rattle.sig_base.proofs.Tests.{some_is_not_none}
 use Rattle.model_core.specs.EventGraph.{EventGraph}
 use Rattle.model_core.specs.Ranges.Narrowed.{IsNarrowed}
 use Rattle.model_core.specs.Rules.Fuse.{Fused}
-use Rattle.model_core.specs.Run.History.{Moment, start}
-use Rattle.model_core.specs.Saved.SavedRun.{SavedRun, saved, saved_moment}
+use Rattle.model_core.specs.Saved.SavedRun.{SavedRun, saved}
 use Rattle.model_core.specs.Static.Reading.{Reads}
 use Rattle.sig_base.specs.Source.{Inlet}
 use Rattle.command_words.specs.declared.job.Job.{Job}
@@ -42,14 +42,12 @@ use Rattle.job_answers.specs.Answers.{AnswersSaved, Responds, Answers, MayStopSh
 use Rattle.job_answers.specs.CertifyAnswer.{Certifies}
 use Rattle.job_answers.specs.ReduceAnswer.{KeepsMeaning}
 use Rattle.job_answers.specs.RewrittenAnswer.{RewritesTheSame}
-use Rattle.job_answers.specs.RunAnswer.{ExceedsRoomFrom, FitsRoomFrom, RunFitsRoom}
-use Rattle.job_answers.specs.ResumeAnswer.{ResumedFitsRoom}
 use Rattle.job_answers.specs.SavedAndResumed.{SavesTheRun, WritesTheRest}
 use Rattle.job_answers.specs.SavedReading.{ReadsSaved}
 use Rattle.answer_delivery.specs.Statuses.{status_of_answer, bytes_of_answer, status_of_end, status_of_refusal, failure_line}
 use Rattle.answer_delivery.specs.FailureStatus.{status_of_failure}
 use Rattle.sigma_top.specs.Promises.{PrintsModel, KeepsPromises}
-use Rattle.sigma_top.specs.StatusTable.{text_of, ReportsLine, WritesAnswer, Refuses, RepliesToInput, HasBegun, LacksMemory, ForJob, Ends}
+use Rattle.sigma_top.specs.StatusTable.{text_of, ReportsLine, WritesAnswer, Refuses, RepliesToInput, WritesFront, LacksMemory, ForJob, Ends}
 use Rattle.sigma_top.specs.Inner.CallSteps.{AnswersInput, AnswersWords}
 
 -- ---- what `print`, `reduce`, `fuse` and `narrow` give, and what `certify` finds sound
@@ -62,55 +60,39 @@ prints_model : GivesSuch models.Print PrintsModel
 prints_model text bytes end (inl over) = let e = over.1 in absurd cc
 prints_model text bytes end (inr (within, response)) = by response where
   by : Responds (readings.Model models.Print) text (Given end bytes) → PrintsModel text bytes
-  by (inl h) = let e = h.told in absurd cc
+  by (inl h) = let e = h.refuses in absurd cc
   by (inr (g, reads, is)) = (g, reads, ap bytes_of_answer is)
 
 abbrev pub SoundMeansTheSame : Type 0
 SoundMeansTheSame = (text bytes : List ℕ) → Answers (readings.Document documents.Certify) text (Given ends.Done bytes) → Certifies text
 
-if_told : (left : Option (List ℕ)) (text : List ℕ) (P : List ℕ → Type 0) → IfSome left (λ told. text ≡ told) → P text → IfSome left P
-if_told None text P same h = tt
-if_told (Some bytes) text P same h = subst P same h
+of_input_text : (left : Option (List ℕ)) (text : List ℕ) (P : List ℕ → Type 0) → IfSome left (λ bytes. text ≡ bytes) → P text → IfSome left P
+of_input_text None text P same h = tt
+of_input_text (Some bytes) text P same h = subst P same h
 
--- ---- where `run` and `resume` lack memory
+-- ---- where memory lacks
 
--- a run that fits its room doesn't exceed it
-fits_its_room : (g : EventGraph) (until seed events : ℕ) (m : Moment) (room : ℕ) → FitsRoomFrom g until seed events m room → ExceedsRoomFrom g until seed events m room → ⊥
-fits_its_room g until seed events m room fits more = omega (arith, fits more.steps more.here more.next more.within more.lead more.comes more.due, more.exceeds)
+in_any_case : (left : Option (List ℕ)) (P : List ℕ → Type 0) → ((text : List ℕ) → P text) → IfSome left P
+in_any_case None P holds = tt
+in_any_case (Some bytes) P holds = holds bytes
 
--- the runs of the models of a text fit their room
-abbrev pub RunsFit : ℕ → ℕ → ℕ → List ℤ → ℕ → List ℕ → Type 0
-RunsFit until seed events starts room text = (g : EventGraph) → Reads text g → RunFitsRoom g until seed events starts room
+module _ {S K : Type 0} (source : S → Inlet) (sink : K → Outlet) (i j : S) (o p : K) where
+  -- the output is as it was, unless the job may stop short
+  abbrev pub IsUntouched : Reading → Type 0
+  IsUntouched reading = IfSome (text_of (limit_of reading) (source i).left) (λ text. (MayStopShort reading text → ⊥) → p ≡ o)
 
-runs_fit : (until seed events : ℕ) (starts : List ℤ) (room : ℕ) (text : List ℕ) → RunsFit until seed events starts room text → MayStopShort (reading_of (jobs.Run until seed events starts room)) text → ⊥
-runs_fit until seed events starts room text fits (g, reads, more) = fits_its_room g until seed events (start g starts) room (fits g reads) more
+  untouched : (reading : Reading) → p ≡ o → IsUntouched reading
+  untouched reading same = in_any_case (text_of (limit_of reading) (source i).left) (λ text. (MayStopShort reading text → ⊥) → p ≡ o) (λ text never. same)
 
--- and so do the saved runs of a document
-abbrev pub ResumedFit : ℕ → ℕ → ℕ → List ℕ → Type 0
-ResumedFit until events room text = (g : EventGraph) (s : SavedRun) → ReadsSaved text g s → ResumedFitsRoom g s until events room
+  begun_unless : (reading : Reading) → (p ≡ o) ⊎ ((front : WritesFront source sink reading i o p) × MayStopShort reading front.answer.text) → IsUntouched reading
+  begun_unless reading (inl same) = untouched reading same
+  begun_unless reading (inr (front, short)) =
+      of_input_text (text_of (limit_of reading) (source i).left) front.answer.text (λ text. (MayStopShort reading text → ⊥) → p ≡ o) front.answer.of_input (λ never. absurd (never short))
 
-resumed_fit : (until events room : ℕ) (text : List ℕ) → ResumedFit until events room text → MayStopShort (reading_of (jobs.Resume until events room)) text → ⊥
-resumed_fit until events room text fits (g, s, reads, more) = fits_its_room g until s.seed events (saved_moment g s) (max room (length s.pending)) (fits g s reads) more
-
-in_any_case : (left : Option (List ℕ)) (Fits : List ℕ → Type 0) (P : Type 0) → P → IfSome left (λ told. Fits told → P)
-in_any_case None Fits P holds = tt
-in_any_case (Some bytes) Fits P holds = λ fits. holds
-
-module _ (job : Job) (Fits : List ℕ → Type 0) (never : (text : List ℕ) → Fits text → MayStopShort (reading_of job) text → ⊥) where
-  unless_it_fits : (left : Option (List ℕ)) (text : List ℕ) (P : Type 0) → IfSome left (λ told. text ≡ told) → MayStopShort (reading_of job) text → IfSome left (λ told. Fits told → P)
-  unless_it_fits None text P told short = tt
-  unless_it_fits (Some bytes) text P told short = λ fits. absurd (never text (subst Fits (sym told) fits) short)
-
-  module _ {S K : Type 0} (source : S → Inlet) (sink : K → Outlet) (i j : S) (o p : K) (reads : (x : Inlet) → text_of (limit_of (reading_of job)) x.left ≡ x.left) where
-    begun_unless : (p ≡ o) ⊎ HasBegun source sink (reading_of job) i o p → IfSome (source i).left (λ told. Fits told → p ≡ o)
-    begun_unless (inl same) = in_any_case (source i).left Fits (p ≡ o) same
-    begun_unless (inr begun) =
-        unless_it_fits (source i).left begun.answer.text (p ≡ o) (subst (λ (left : Option (List ℕ)). IfSome left (λ told. begun.answer.text ≡ told)) (reads (source i)) begun.answer.told) begun.short
-
-    pub kept_unless : (words : List (List ℕ)) → job_of words ≡ Some job → ((j ≡ i) × (p ≡ o)) ⊎ ForJob words (λ reading. LacksMemory source sink reading i j o p) → IfSome (source i).left (λ told. Fits told → p ≡ o)
-    kept_unless words asked (inl same) = in_any_case (source i).left Fits (p ≡ o) same.1
-    kept_unless words asked (inr lacks) =
-        begun_unless (subst (λ (other : Job). LacksMemory source sink (reading_of other) i j o p) (same_Some _ _ (sym lacks.1 ∙ asked)) lacks.2).output_grown
+  pub kept_unless : (words : List (List ℕ)) (job : Job) → job_of words ≡ Some job → ((j ≡ i) × (p ≡ o)) ⊎ ForJob words (λ reading. LacksMemory source sink reading i j o p) → IsUntouched (reading_of job)
+  kept_unless words job asked (inl same) = untouched (reading_of job) same.1
+  kept_unless words job asked (inr lacks) =
+      begun_unless (reading_of job) (subst (λ (other : Job). LacksMemory source sink (reading_of other) i j o p) (same_Some _ _ (sym lacks.1 ∙ asked)) lacks.2).output_grown
 
 -- ---- what `resume` writes of what `save` wrote
 
@@ -127,19 +109,12 @@ AnswersWhatReads = (job : SavedJob) (text : List ℕ) (g : EventGraph) (s : Save
 abbrev pub IsComplete : Reading → Status → Option (List ℕ) → (List ℕ → Type 0) → Type 0
 IsComplete reading status left Grows = IfSome (text_of (limit_of reading) left) (λ text. (a : Answer) × Answers reading text a × (status ≡ status_of_answer a) × Grows (bytes_of_answer a))
 
-if_answers : (job : Reading) (told : Option (List ℕ)) (P Q : Answer → Type 0) (text : List ℕ) (a : Answer) → IfSome told (λ bytes. text ≡ bytes) → Answers job text a → P a → Q a → IfSome told (λ bytes. (b : Answer) × Answers job bytes b × P b × Q b)
+if_answers : (job : Reading) (left : Option (List ℕ)) (P Q : Answer → Type 0) (text : List ℕ) (a : Answer) → IfSome left (λ bytes. text ≡ bytes) → Answers job text a → P a → Q a → IfSome left (λ bytes. (b : Answer) × Answers job bytes b × P b × Q b)
 if_answers job None P Q text a same answers x y = tt
 if_answers job (Some bytes) P Q text a same answers x y = (a, subst (λ (t : List ℕ). Answers job t a) same answers, x, y)
 
-some_is_not_none : {A : Type 0} {o : Option A} {x : A} → o ≡ Some x → o ≡ None → ⊥
-some_is_not_none e f = cc
-
-grows_by_nothing : (old : Option (List ℕ)) → GrowsBy old old []
-grows_by_nothing None = tt
-grows_by_nothing (Some bytes) = ap (λ b. Some b) (sym (append-nil bytes))
-
 unwritten : {K : Type 0} (sink : K → Outlet) {o p : K} → p ≡ o → GrowsBy (sink o).written (sink p).written []
-unwritten {K} sink {o} {p} same = subst (λ (q : K). GrowsBy (sink o).written (sink q).written []) (sym same) (grows_by_nothing (sink o).written)
+unwritten {K} sink {o} {p} same = subst (λ (q : K). GrowsBy (sink o).written (sink q).written []) (sym same) (GrowsBy-nothing (sink o).written)
 
 -- what reads as a model is reduced, or memory is short
 abbrev pub ReducesWhatReads : Type 0
@@ -156,7 +131,7 @@ always_reduced law status (Some text) Grows (inr (a, answers, is, grows)) = λ g
 module _ {S K : Type 0} (source : S → Inlet) (sink : K → Outlet) (words : List (List ℕ)) (i j : S) (o p : K) where
   -- what the job does, the call does
   pub answer_of_job : (job : Job) → job_of words ≡ Some job → (reading : Reading) → reading ≡ reading_of job → (r : Result DeliveryOutcome Failure) → AnswersInput source sink reading r i j o p → AnswersWords source sink words r i j o p
-  answer_of_job job asked reading known r h = by r (subst (λ (x : Reading). AnswersInput source sink x r i j o p) known h)
+  answer_of_job job asked reading same r h = by r (subst (λ (x : Reading). AnswersInput source sink x r i j o p) same h)
     where
       by : (r : Result DeliveryOutcome Failure) → AnswersInput source sink (reading_of job) r i j o p → AnswersWords source sink words r i j o p
       by (Ok s) h = (job, asked, h)
@@ -174,35 +149,35 @@ module _ {S K E : Type 0} (source : S → Inlet) (sink : K → Outlet) (errors :
   gave ends.Rejected h = (h, refl)
 
   pub gave_ends : (end : End) (r : Result DeliveryOutcome Failure) (status : Status) → r ≡ Ok (said.Gave end) → status ≡ status_of_end end → AnswersWords source sink words r i j o p → Ends source sink errors words i j o p e e status
-  gave_ends end r status is known h =
-      subst (λ (s : Status). Ends source sink errors words i j o p e e s) (sym known) (gave end (subst (λ (x : Result DeliveryOutcome Failure). AnswersWords source sink words x i j o p) is h))
+  gave_ends end r status is of_status h =
+      subst (λ (s : Status). Ends source sink errors words i j o p e e s) (sym of_status) (gave end (subst (λ (x : Result DeliveryOutcome Failure). AnswersWords source sink words x i j o p) is h))
 
   module _ (f : E) where
     -- a refusal is reported by its line
     refused : (why : Refusal) (line : List ℕ) → AnswersWords source sink words (Ok (said.Refused why line)) i j o p → ReportsLine (errors e) (errors f) line → Ends source sink errors words i j o p e f (status_of_refusal why)
-    refused refusals.Refused line h told = (line, h, told)
-    refused refusals.BadStart line h told = (line, h, told)
-    refused refusals.Finished line h told = (line, h, told)
-    refused refusals.TooLarge line h told = (line, h, told)
+    refused refusals.Refused line h reported = (line, h, reported)
+    refused refusals.BadStart line h reported = (line, h, reported)
+    refused refusals.Finished line h reported = (line, h, reported)
+    refused refusals.TooLarge line h reported = (line, h, reported)
 
     pub refused_ends : (why : Refusal) (line shown : List ℕ) (r : Result DeliveryOutcome Failure) (status : Status) → r ≡ Ok (said.Refused why line) → status ≡ status_of_refusal why → shown ≡ line → AnswersWords source sink words r i j o p → ReportsLine (errors e) (errors f) shown
         → Ends source sink errors words i j o p e f status
-    refused_ends why line shown r status is known same h told =
-        subst (λ (s : Status). Ends source sink errors words i j o p e f s) (sym known)
-        (refused why line (subst (λ (x : Result DeliveryOutcome Failure). AnswersWords source sink words x i j o p) is h) (subst (λ (l : List ℕ). ReportsLine (errors e) (errors f) l) same told))
+    refused_ends why line shown r status is of_status same h reported =
+        subst (λ (s : Status). Ends source sink errors words i j o p e f s) (sym of_status)
+        (refused why line (subst (λ (x : Result DeliveryOutcome Failure). AnswersWords source sink words x i j o p) is h) (subst (λ (l : List ℕ). ReportsLine (errors e) (errors f) l) same reported))
 
     -- a failure is reported by its line
     failed : (failure : Failure) → AnswersWords source sink words (Err failure) i j o p → ReportsLine (errors e) (errors f) (failure_line failure) → Ends source sink errors words i j o p e f (status_of_failure failure)
-    failed failures.Usage h told = (h.0, h.1, h.2, told)
-    failed failures.ReadFault h told = (h, told)
-    failed failures.WriteFault h told = (h, told)
-    failed failures.NoMemory h told = (h, told)
+    failed failures.Usage h reported = (h.0, h.1, h.2, reported)
+    failed failures.ReadFault h reported = (h, reported)
+    failed failures.WriteFault h reported = (h, reported)
+    failed failures.NoMemory h reported = (h, reported)
 
     pub failure_ends : (failure : Failure) (shown : List ℕ) (r : Result DeliveryOutcome Failure) (status : Status) → r ≡ Err failure → status ≡ status_of_failure failure → shown ≡ failure_line failure → AnswersWords source sink words r i j o p → ReportsLine (errors e) (errors f) shown
         → Ends source sink errors words i j o p e f status
-    failure_ends failure shown r status is known same h told =
-        subst (λ (s : Status). Ends source sink errors words i j o p e f s) (sym known)
-        (failed failure (subst (λ (x : Result DeliveryOutcome Failure). AnswersWords source sink words x i j o p) is h) (subst (λ (l : List ℕ). ReportsLine (errors e) (errors f) l) same told))
+    failure_ends failure shown r status is of_status same h reported =
+        subst (λ (s : Status). Ends source sink errors words i j o p e f s) (sym of_status)
+        (failed failure (subst (λ (x : Result DeliveryOutcome Failure). AnswersWords source sink words x i j o p) is h) (subst (λ (l : List ℕ). ReportsLine (errors e) (errors f) l) same reported))
 
     -- the bytes of the output grew by these
     abbrev Grows : List ℕ → Type 0
@@ -218,14 +193,14 @@ module _ {S K E : Type 0} (source : S → Inlet) (sink : K → Outlet) (errors :
     given_is_such job of_model is IsSuch law status h asked is_done =
         let done = (subst (λ (s : Status). Ends source sink errors words i j o p e f s) is_done h).0 in
         let answer = subst (λ (reading : Reading). RepliesToInput reading (source i) (Given ends.Done done.2.bytes)) is (replied job asked (Given ends.Done done.2.bytes) done.0 done.1 done.2.answer) in
-        if_told (source i).left answer.text (λ text. (out : List ℕ) × IsSuch text out × Grows out) answer.told (done.2.bytes, law answer.text done.2.bytes ends.Done answer.answers, done.2.output_grown)
+        of_input_text (source i).left answer.text (λ text. (out : List ℕ) × IsSuch text out × Grows out) answer.of_input (done.2.bytes, law answer.text done.2.bytes ends.Done answer.answers, done.2.output_grown)
 
     -- what `certify` finds sound means the same
     certified_means : SoundMeansTheSame → (status : Status) → Ends source sink errors words i j o p e f status → job_of words ≡ Some jobs.Certify → status ≡ statuses.Done → IfSome (source i).left Certifies
     certified_means law status h asked is_done =
         let done = (subst (λ (s : Status). Ends source sink errors words i j o p e f s) is_done h).0 in
         let answer = replied jobs.Certify asked (Given ends.Done done.2.bytes) done.0 done.1 done.2.answer in
-        if_told (source i).left answer.text Certifies answer.told (law answer.text done.2.bytes answer.answers)
+        of_input_text (source i).left answer.text Certifies answer.of_input (law answer.text done.2.bytes answer.answers)
 
     -- what `save` writes is what `resume` goes on from
     saved_is_such : SavesSuch → ((job : Job) → job_of words ≡ Some job → KeepsLimits (reading_of job)) → (options : SaveOptions)
@@ -235,36 +210,26 @@ module _ {S K E : Type 0} (source : S → Inlet) (sink : K → Outlet) (errors :
         given_is_such (jobs.Save options.until options.seed options.events options.starts) (models.Save options) refl (λ text out. SavesTheRun text out options)
         (λ text out end answers. law options text out end (limits (jobs.Save options.until options.seed options.events options.starts) asked) answers) status h asked is_done
 
-    -- where `run` lacks memory it has written nothing, if it fits its room
-    pub within_room : (until seed events : ℕ) (starts : List ℤ) (room : ℕ) → job_of words ≡ Some (jobs.Run until seed events starts room) → (status : Status) → Ends source sink errors words i j o p e f status → status ≡ statuses.NoMemory
-        → IfSome (source i).left (λ told. RunsFit until seed events starts room told → p ≡ o)
-    within_room until seed events starts room asked status h is_short =
-        kept_unless (jobs.Run until seed events starts room) (RunsFit until seed events starts room) (runs_fit until seed events starts room) source sink i j o p (λ x. refl) words asked
-        (subst (λ (s : Status). Ends source sink errors words i j o p e f s) is_short h).0
-
-    -- and so it is with `resume`
-    pub resumed_within_room : (until events room : ℕ) → job_of words ≡ Some (jobs.Resume until events room) → (status : Status) → Ends source sink errors words i j o p e f status → status ≡ statuses.NoMemory
-        → IfSome (source i).left (λ told. ResumedFit until events room told → p ≡ o)
-    resumed_within_room until events room asked status h is_short =
-        kept_unless (jobs.Resume until events room) (ResumedFit until events room) (resumed_fit until events room) source sink i j o p (λ x. refl) words asked
-        (subst (λ (s : Status). Ends source sink errors words i j o p e f s) is_short h).0
+    -- where memory lacks nothing is written, unless the job may stop short
+    pub writes_nothing : (job : Job) → job_of words ≡ Some job → (status : Status) → Ends source sink errors words i j o p e f status → status ≡ statuses.NoMemory → IsUntouched source sink i j o p (reading_of job)
+    writes_nothing job asked status h is_short = kept_unless source sink i j o p words job asked (subst (λ (s : Status). Ends source sink errors words i j o p e f s) is_short h).0
 
     module _ (job : Job) (asked : job_of words ≡ Some job) where
       given : (end : End) → ForJob words (λ reading. WritesAnswer source sink reading end i j o p) → IsComplete (reading_of job) (status_of_end end) (source i).left Grows
       given end h =
           let answer = replied job asked (Given end h.2.bytes) h.0 h.1 h.2.answer in
-          if_answers (reading_of job) (text_of (limit_of (reading_of job)) (source i).left) (λ a. status_of_end end ≡ status_of_answer a) (λ a. Grows (bytes_of_answer a)) answer.text (Given end h.2.bytes) answer.told answer.answers refl h.2.output_grown
+          if_answers (reading_of job) (text_of (limit_of (reading_of job)) (source i).left) (λ a. status_of_end end ≡ status_of_answer a) (λ a. Grows (bytes_of_answer a)) answer.text (Given end h.2.bytes) answer.of_input answer.answers refl h.2.output_grown
 
       refusal : (why : Refusal) (line : List ℕ) → ForJob words (λ reading. Refuses source sink reading why line i j o p) → IsComplete (reading_of job) (status_of_refusal why) (source i).left Grows
       refusal why line h =
           let answer = replied job asked (Refused why line) h.0 h.1 h.2.answer in
-          if_answers (reading_of job) (text_of (limit_of (reading_of job)) (source i).left) (λ a. status_of_refusal why ≡ status_of_answer a) (λ a. Grows (bytes_of_answer a)) answer.text (Refused why line) answer.told answer.answers refl (unwritten sink h.2.output_untouched)
+          if_answers (reading_of job) (text_of (limit_of (reading_of job)) (source i).left) (λ a. status_of_refusal why ≡ status_of_answer a) (λ a. Grows (bytes_of_answer a)) answer.text (Refused why line) answer.of_input answer.answers refl (unwritten sink h.2.output_untouched)
 
       -- no status is left but that of the answer, and want of memory
       pub complete : (HasRisen (source i).faults (source j).faults → ⊥) → (HasRisen (sink o).faults (sink p).faults → ⊥) → (status : Status) → Ends source sink errors words i j o p e f status → (status ≡ statuses.NoMemory) ⊎ IsComplete (reading_of job) status (source i).left Grows
       complete read wrote statuses.Done h = inr (given ends.Done h.0)
       complete read wrote statuses.Refused h = inr (refusal refusals.Refused h.0 h.1)
-      complete read wrote statuses.Usage h = absurd (some_is_not_none asked h.0)
+      complete read wrote statuses.Usage h = absurd (some_is_not_none _ _ h.0 asked)
       complete read wrote statuses.ReadFault h = absurd (read h.0.2.input_failed)
       complete read wrote statuses.WriteFault h = absurd (wrote h.0.2.output_failed)
       complete read wrote statuses.NoMemory h = inl refl
@@ -279,7 +244,7 @@ module _ {S K E : Type 0} (source : S → Inlet) (sink : K → Outlet) (errors :
       pub answered : (status : Status) → Ends source sink errors words i j o p e f status → (status ≡ statuses.ReadFault → ⊥) → (status ≡ statuses.WriteFault → ⊥) → (status ≡ statuses.NoMemory → ⊥) → IsComplete (reading_of job) status (source i).left Grows
       answered statuses.Done h read wrote held = given ends.Done h.0
       answered statuses.Refused h read wrote held = refusal refusals.Refused h.0 h.1
-      answered statuses.Usage h read wrote held = absurd (some_is_not_none asked h.0)
+      answered statuses.Usage h read wrote held = absurd (some_is_not_none _ _ h.0 asked)
       answered statuses.ReadFault h read wrote held = absurd (read refl)
       answered statuses.WriteFault h read wrote held = absurd (wrote refl)
       answered statuses.NoMemory h read wrote held = absurd (held refl)
@@ -299,9 +264,9 @@ module _ {S K E : Type 0} (source : S → Inlet) (sink : K → Outlet) (errors :
     rest_written : AnswersWhatReads → (options : ResumeOptions) (status : Status) (left : Option (List ℕ)) → IsComplete (reading_of (jobs.Resume options.until options.events options.room)) status left Grows
         → IfSome left (WritesTheRest options.until options.events Grows)
     rest_written law options status None h = tt
-    rest_written law options status (Some document) (a, answers, is, grows) = λ text saved_by saves early few.
+    rest_written law options status (Some document) (a, answers, is, grows) = λ text saved_by saves early in_budget.
         let answers_run = law (saved_jobs.Resume options) document saves.model (saved saved_by.seed saved_by.events saves.here) a saves.reads_back answers in
-        subst Grows (ap bytes_of_answer (saves.resumed options.until options.events options.room early few a answers_run)) grows
+        subst Grows (ap bytes_of_answer (saves.resumed options.until options.events options.room early in_budget a answers_run)) grows
 
     goes_on : AnswersWhatReads → (options : ResumeOptions) → job_of words ≡ Some (jobs.Resume options.until options.events options.room) → (status : Status) → Ends source sink errors words i j o p e f status
         → (status ≡ statuses.ReadFault → ⊥) → (status ≡ statuses.WriteFault → ⊥) → (status ≡ statuses.NoMemory → ⊥) → IfSome (source i).left (WritesTheRest options.until options.events Grows)

@@ -1,6 +1,6 @@
 -- The table of statuses: how the answer to the input gets to the output, and what is left where it doesn't. It says nothing
 -- about what the jobs answer.
-use Rattle.std.specs.Prelude.{◌≡◌, ◌≤◌, ◌⊎◌, ℕ, ◌+◌, true, false, List, drop, [], Option, Some, None, IfSome}
+use Rattle.std.specs.Prelude.{◌≡◌, ◌≤◌, ◌⊎◌, ℕ, ◌+◌, true, false, List, drop, [], Option, Some, None, IfSome, IsSome}
 use Rattle.sig_base.specs.Faults.{HasRisen}
 use Rattle.sig_base.specs.Sink.{Outlet, GrowsBy}
 use Rattle.sig_base.specs.Source.{Inlet}
@@ -29,11 +29,6 @@ abbrev pub text_of : Option ℕ → Option (List ℕ) → Option (List ℕ)
 text_of None left = Some []
 text_of (Some limit) left = left
 
--- the job reads a text
-abbrev pub HasLimit : Option ℕ → Type 0
-HasLimit None = ⊥
-HasLimit (Some limit) = Unit {0}
-
 -- the input was read to its end
 abbrev pub IsReadToEnd : {S : Type 0} → (S → Inlet) → Option ℕ → S → S → Type 0
 IsReadToEnd seen None old new = new ≡ old
@@ -54,7 +49,7 @@ IsReadInPart seen (Some limit) old new = IfSome (seen old).left (λ bytes. (n : 
 -- this is the answer to the input's text, or to some text where the input gives none
 pub record RepliesToInput (reading : Reading) (i : Inlet) (a : Answer) : Type 0 where
   pub text : List ℕ
-  pub told : IfSome (text_of (limit_of reading) i.left) (λ bytes. text ≡ bytes)
+  pub of_input : IfSome (text_of (limit_of reading) i.left) (λ bytes. text ≡ bytes)
   pub answers : Answers reading text a
 
 module _ {S K : Type 0} (source : S → Inlet) (sink : K → Outlet) (reading : Reading) where
@@ -77,36 +72,32 @@ module _ {S K : Type 0} (source : S → Inlet) (sink : K → Outlet) (reading : 
 
   -- A read failed. Nothing is written.
   pub record FailsToRead (i j : S) (o p : K) : Type 0 where
-    pub reads_text : HasLimit (limit_of reading)
+    pub reads_text : IsSome (limit_of reading)
     pub input_read : IsReadInPart source (limit_of reading) i j
     pub input_failed : HasRisen (source i).faults (source j).faults
     pub output_untouched : p ≡ o
 
+  -- a front of the answer was written
+  pub record WritesFront (i : S) (o p : K) : Type 0 where
+    pub end : End
+    pub bytes : List ℕ
+    pub answer : RepliesToInput reading (source i) (Given end bytes)
+    pub output_grown : GrowsByFront (sink o) (sink p) bytes
+
   -- A write failed, or finishing did. The input was read, and a front of its answer was written; the output isn't finished,
   -- unless there was nothing to write.
   pub record FailsToWrite (i j : S) (o p : K) : Type 0 where
-    pub end : End
-    pub bytes : List ℕ
-    pub answer : RepliesToInput reading (source i) (Given end bytes)
+    pub front : WritesFront i o p
     pub input_read : IsReadToEnd source (limit_of reading) i j
     pub input_steady : (source j).faults ≡ (source i).faults
-    pub output_grown : GrowsByFront (sink o) (sink p) bytes
-    pub output_unsettled : HasNothingToWrite reading bytes ⊎ ((sink p).settled ≡ false)
+    pub output_unsettled : HasNothingToWrite reading front.bytes ⊎ ((sink p).settled ≡ false)
     pub output_failed : HasRisen (sink o).faults (sink p).faults
 
-  -- a job that writes as it goes has written a front of its answer
-  pub record HasBegun (i : S) (o p : K) : Type 0 where
-    pub end : End
-    pub bytes : List ℕ
-    pub answer : RepliesToInput reading (source i) (Given end bytes)
-    pub short : MayStopShort reading answer.text
-    pub output_grown : GrowsByFront (sink o) (sink p) bytes
-
-  -- Memory was refused.
+  -- Memory was refused. A job that may stop short has perhaps written a front of its answer.
   pub record LacksMemory (i j : S) (o p : K) : Type 0 where
     pub input_read : IsReadInPart source (limit_of reading) i j
     pub input_steady : (source j).faults ≡ (source i).faults
-    pub output_grown : (p ≡ o) ⊎ HasBegun i o p
+    pub output_grown : (p ≡ o) ⊎ ((front : WritesFront i o p) × MayStopShort reading front.answer.text)
     pub output_steady : (sink p).faults ≡ (sink o).faults
 
 -- ---- the table of statuses

@@ -4,67 +4,32 @@ ghost use Rattle.std.specs.Prelude.{◌≡◌, ◌≢◌, map, vec_items, IfOk, 
 ghost use Rattle.std.specs.IoError.{error_kind};
 ghost use Rattle.std.specs.Process.{exit_status};
 ghost use Rattle.std.specs.String.{string_bytes};
-ghost use Rattle.answer_delivery.specs.declared.status.Failure.TheVariants as failures;
 ghost use Rattle.answer_delivery.specs.Statuses.{exit_status_of, failure_line};
 ghost use Rattle.sigma_top.specs.Promises.{KeepsPromises};
 ghost use Rattle.sigma_top.specs.StatusTable.{ReportsLine, Ends};
 
-use crate::top_call::sigma;
-use answer_delivery::Status;
-use sig_base::{Sink, Source, put};
+use crate::top_call::{sigma, write_line};
+use answer_delivery::{Failure, Status};
+use sig_base::{Sink, Source};
 use std::alloc::Global;
 use std::io;
 use std::io::ErrorKind;
 use std::process::ExitCode;
 
-/// The status and the line of an error in place of words: memory was refused, or a word isn't UTF-8.
-fn without_words(kind: ErrorKind) -> (Status, &'static [u8])
-    ensures no_memory { kind ≡ ErrorKind.OutOfMemory → (result.0 ≡ Status.NoMemory)
-        × (result.1.now ≡ failure_line failures.NoMemory) }
-    ensures usage { kind ≢ ErrorKind.OutOfMemory → (result.0 ≡ Status.Usage)
-        × (result.1.now ≡ failure_line failures.Usage) }
+/// The failure for an error in place of words: memory was refused, or a word isn't UTF-8.
+fn words_failure(kind: ErrorKind) -> Failure
+    ensures no_memory { kind ≡ ErrorKind.OutOfMemory → result ≡ Failure.NoMemory }
+    ensures usage { kind ≢ ErrorKind.OutOfMemory → result ≡ Failure.Usage }
 {
     if kind == ErrorKind::OutOfMemory {
-        (Status::NoMemory, b"sigma: out of memory\n")
+        Failure::NoMemory
     } else {
-        (Status::Usage, b"sigma: bad command line\n")
+        Failure::Usage
     }
 }
 
-/// Does the job that the words ask for, as `sigma` does, and returns the status. Of an error in place of words, it writes the
-/// line.
-fn program_status<S: Source, K: Sink, E: Sink>(
-    alloc: Global,
-    words: io::Result<Vec<String>>,
-    input: &mut S,
-    output: &mut K,
-    errors: &mut E,
-) -> Status
-    ensures ended { IfOk words
-        (λ words. Ends S.seen K.seen E.seen (map string_bytes (vec_items words))
-        input.old input.new output.old output.new errors.old errors.new result) }
-    ensures promises { IfOk words
-        (λ words. KeepsPromises (λ status. result ≡ status) (map string_bytes (vec_items words))
-        (S.seen input.old) (K.seen output.old) (K.seen output.new)) }
-    ensures untouched { OnErr words ((input.new ≡ input.old) × (output.new ≡ output.old)) }
-    ensures without_memory { IfErr words (λ error. error_kind error ≡ ErrorKind.OutOfMemory
-        → (result ≡ Status.NoMemory)
-        × ReportsLine (E.seen errors.old) (E.seen errors.new) (failure_line failures.NoMemory)) }
-    ensures without_words { IfErr words (λ error. error_kind error ≢ ErrorKind.OutOfMemory
-        → (result ≡ Status.Usage)
-        × ReportsLine (E.seen errors.old) (E.seen errors.new) (failure_line failures.Usage)) }
-{
-    match words {
-        Ok(words) => sigma(alloc, &words, input, output, errors),
-        Err(error) => {
-            let (status, line) = without_words(error.kind());
-            let _ = put(errors, line);
-            status
-        }
-    }
-}
-
-/// Does the job that the words ask for, and answers the exit status.
+/// Does the job that the words ask for, as `sigma` does, and returns the exit status. Of an error in place of words, it
+/// writes the line.
 pub fn program<S: Source, K: Sink, E: Sink>(
     alloc: Global,
     words: io::Result<Vec<String>>,
@@ -88,11 +53,17 @@ pub fn program<S: Source, K: Sink, E: Sink>(
     ensures untouched { OnErr words ((input.new ≡ input.old) × (output.new ≡ output.old)) }
     ensures without_memory { IfErr words (λ error. error_kind error ≡ ErrorKind.OutOfMemory
         → (exit_status result ≡ exit_status_of Status.NoMemory)
-        × ReportsLine (E.seen errors.old) (E.seen errors.new) (failure_line failures.NoMemory)) }
+        × ReportsLine (E.seen errors.old) (E.seen errors.new) (failure_line Failure.NoMemory)) }
     ensures without_words { IfErr words (λ error. error_kind error ≢ ErrorKind.OutOfMemory
         → (exit_status result ≡ exit_status_of Status.Usage)
-        × ReportsLine (E.seen errors.old) (E.seen errors.new) (failure_line failures.Usage)) }
+        × ReportsLine (E.seen errors.old) (E.seen errors.new) (failure_line Failure.Usage)) }
 {
-    let status = program_status(alloc, words, input, output, errors);
-    ExitCode::from(status.number())
+    match words {
+        Ok(words) => ExitCode::from(sigma(alloc, &words, input, output, errors).number()),
+        Err(error) => {
+            let failure = words_failure(error.kind());
+            write_line(errors, failure.line());
+            ExitCode::from(failure.status().number())
+        }
+    }
 }

@@ -2,21 +2,18 @@
 //! `answer_input` > `answer_text` (in `job_answers`) is its way inwards. It knows a job by what that reads, and everything else
 //! is proved once for all jobs.
 
-ghost use Rattle.std.specs.Prelude.{◌≡◌, ◌⊎◌, ℕ, ℤ, List, Some, map, IfSome};
+ghost use Rattle.std.specs.Prelude.{◌≡◌, ◌⊎◌, Some, map, IfSome};
 ghost use Rattle.std.specs.String.{string_bytes};
 ghost use Rattle.sig_base.specs.Faults.{HasRisen};
 ghost use Rattle.command_words.specs.declared.job.Job.{Job};
 ghost use Rattle.command_words.specs.Jobs.{job_of};
 ghost use Rattle.command_words.specs.KeptLimits.{KeepsLimits};
-ghost use Rattle.command_words.specs.Readings.{reading_of};
+ghost use Rattle.command_words.specs.Readings.{reading_of, limit_of};
 ghost use Rattle.model_core.specs.EventGraph.{EventGraph};
-ghost use Rattle.model_core.specs.Saved.SavedRun.{SavedRun};
 ghost use Rattle.model_core.specs.Static.Reading.{Reads};
-ghost use Rattle.job_answers.specs.ResumeAnswer.{ResumedFitsRoom};
-ghost use Rattle.job_answers.specs.RunAnswer.{RunFitsRoom};
-ghost use Rattle.job_answers.specs.SavedReading.{ReadsSaved};
+ghost use Rattle.job_answers.specs.Answers.{MayStopShort};
 ghost use Rattle.sigma_top.specs.Promises.{IsOfAnswer, KeepsPromises};
-ghost use Rattle.sigma_top.specs.StatusTable.{ReportsLine, Ends};
+ghost use Rattle.sigma_top.specs.StatusTable.{text_of, ReportsLine, Ends};
 ghost use Rattle.sigma_top.specs.Inner.CallSteps.{AnswersInput, AnswersWords};
 
 use crate::text_taking::{TakenText, take_text};
@@ -38,7 +35,8 @@ fn answer_input<S: Source, K: Sink>(
     output: &mut K,
 ) -> Result<DeliveryOutcome, Failure>
     requires { KeepsLimits reading.now }
-    ensures { AnswersInput S.seen K.seen reading.now result input.old input.new output.old output.new }
+    ensures { AnswersInput S.seen K.seen reading.now result
+        input.old input.new output.old output.new }
 {
     answers_keep_their_laws();
     match take_text(alloc, reading.limit(), input) {
@@ -66,7 +64,7 @@ fn answer_words<S: Source, K: Sink>(
 }
 
 /// Writes a line on the error output.
-fn write_line<E: Sink>(errors: &mut E, line: &[u8])
+pub(crate) fn write_line<E: Sink>(errors: &mut E, line: &[u8])
     ensures { ReportsLine (E.seen errors.old) (E.seen errors.new) line.now }
 {
     let _ = put(errors, line);
@@ -127,22 +125,12 @@ pub fn sigma<S: Source, K: Sink, E: Sink>(
         → IfSome (S.seen input.old).left (λ text.
         (g : EventGraph) → Reads text g → (result ≡ Status.Done) ⊎ (result ≡ Status.NoMemory)) }
 
-    // Where `run` lacks memory nothing is written, if the run fits the room that it was given.
-    ensures within_room { (until seed events : ℕ) (starts : List ℤ) (room : ℕ)
-        → job_of (map string_bytes words.now) ≡ Some (Job.Run until seed events starts room)
+    // Where memory lacks nothing is written, unless the job may stop short: `run` and `resume` where the run exceeds the room
+    // that it was given, and `replicate`.
+    ensures writes_nothing { (job : Job) → job_of (map string_bytes words.now) ≡ Some job
         → result ≡ Status.NoMemory
-        → IfSome (S.seen input.old).left (λ text.
-        ((g : EventGraph) → Reads text g → RunFitsRoom g until seed events starts room)
-        → output.new ≡ output.old) }
-
-    // Where `resume` lacks memory nothing is written, if the saved run fits the room that it has.
-    ensures resumed_within_room { (until events room : ℕ)
-        → job_of (map string_bytes words.now) ≡ Some (Job.Resume until events room)
-        → result ≡ Status.NoMemory
-        → IfSome (S.seen input.old).left (λ text.
-        ((g : EventGraph) (s : SavedRun) → ReadsSaved text g s
-        → ResumedFitsRoom g s until events room)
-        → output.new ≡ output.old) }
+        → IfSome (text_of (limit_of (reading_of job)) (S.seen input.old).left)
+        (λ text. (MayStopShort (reading_of job) text → ⊥) → output.new ≡ output.old) }
 
     // What each job is for: the promises `printed`, `reduced`, `fused`, `narrowed`, `saved`, `resumed` and `certified`, one
     // field each.

@@ -4,12 +4,10 @@ use Rattle.std.specs.Prelude.{codes, decimal}
 use Rattle.command_words.specs.declared.reading.DocumentJob.TheVariants.{Certify}
 use Rattle.command_words.specs.declared.reading.Reading.TheVariants.{Document}
 use Rattle.model_core.specs.Rules.Verdict.{Verdict, Sound, Rejected, Differs, verdict}
-use Rattle.answer_delivery.specs.declared.answer.Answer.TheVariants.{Given}
-use Rattle.answer_delivery.specs.declared.status.End.{End}
 use Rattle.answer_delivery.specs.declared.status.Status.TheVariants as statuses
 use Rattle.job_answers.specs.AnswerLaws.{KeepsAnswerLaws}
-use Rattle.job_answers.specs.CertifyAnswer.{answer_of_verdict, certify_answer}
-use Rattle.answer_delivery.specs.Statuses.{status_of_answer}
+use Rattle.job_answers.specs.CertifyAnswer.{answer_of_verdict}
+use Rattle.job_answers.proofs.AnswerTerms.{Given, End, status_of_answer}
 use Rattle.job_answers.proofs.GivenAnswers.{begins_with, some_bytes}
 
 has_bytes : (v : Verdict) (end : End) (bytes : List ℕ) → Given end bytes ≡ answer_of_verdict v → 0 < length bytes
@@ -24,7 +22,7 @@ unrefused Differs e = cc
 
 pub certify_laws : KeepsAnswerLaws (Document Certify)
 certify_laws = record {
-  exists = λ d read. (certify_answer d.0 d.1 d.2, refl);
+  exists = λ d read. (answer_of_verdict (verdict d.0 d.1 d.2), refl);
   one = λ d a b x y. x ∙ sym y;
   has_bytes = λ d end bytes h. inr (has_bytes (verdict d.0 d.1 d.2) end bytes h);
   unrefused = λ d a h e. unrefused (verdict d.0 d.1 d.2) (sym (ap status_of_answer h) ∙ e);

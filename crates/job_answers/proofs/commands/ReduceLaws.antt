@@ -7,12 +7,10 @@ use Rattle.model_core.specs.Static.Reading.{IsValid}
 use Rattle.model_core.specs.Text.Canonical.{canonical}
 use Rattle.model_core.specs.Rules.Certificate.{certificate}
 use Rattle.model_core.specs.Rules.Reduction.{RuleApplication, Strategy}
-use Rattle.answer_delivery.specs.declared.answer.Answer.{Answer}
 use Rattle.answer_delivery.specs.declared.status.End.TheVariants as ends
-use Rattle.answer_delivery.specs.AnswerForms.{done, IsDone}
 use Rattle.job_answers.specs.AnswerLaws.{KeepsAnswerLaws}
 use Rattle.job_answers.specs.ReduceAnswer.{Reduces}
-use Rattle.answer_delivery.specs.Statuses.{status_of_answer}
+use Rattle.job_answers.proofs.AnswerTerms.{Answer, done, IsDone, status_of_answer}
 use Rattle.job_answers.proofs.GivenAnswers.{some_bytes, end_unrefused}
 use Rattle.job_answers.proofs.commands.PrintLaws.{canonical_has_bytes}
 

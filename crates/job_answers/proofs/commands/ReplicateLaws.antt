@@ -12,22 +12,15 @@ use Rattle.model_core.specs.Run.History.{allowed}
 use Rattle.tally_report.specs.declared.run_tally.RunTally.{RunTally}
 use Rattle.tally_report.specs.ReportText.{header_row, run_rows, total_rows}
 use Rattle.tally_report.specs.Totalling.{RunTotals, no_totals, totals_from, with_run}
-use Rattle.answer_delivery.specs.declared.answer.Answer.TheVariants.{Given}
-use Rattle.answer_delivery.specs.declared.delivering.DeliveryOutcome.{DeliveryOutcome}
-use Rattle.answer_delivery.specs.declared.status.End.{End}
 use Rattle.answer_delivery.specs.declared.status.End.TheVariants as ends
-use Rattle.answer_delivery.specs.declared.status.Failure.{Failure}
 use Rattle.answer_delivery.specs.declared.status.Status.TheVariants as statuses
-use Rattle.answer_delivery.specs.AnswerForms.{done}
 use Rattle.job_answers.specs.AnswerLaws.{KeepsAnswerLaws}
-use Rattle.answer_delivery.specs.Delivery.{DeliversSome}
 use Rattle.job_answers.specs.ReplicateAnswer.{seed_of_run, tally_numbered, rows_numbered, report_rows, report, replicate_answer}
 use Rattle.job_answers.specs.RunAnswer.{refused_or}
 use Rattle.job_answers.specs.StartingValues.{start_refusal}
-use Rattle.answer_delivery.specs.Statuses.{status_of_answer}
 use Rattle.job_answers.specs.Inner.ReportSteps.{rest_of_report, IsWrittenUpTo}
-use Rattle.answer_delivery.specs.DeliverySteps.{Closed}
 use Rattle.job_answers.specs.Inner.WritingSteps.{WritesPieces}
+use Rattle.job_answers.proofs.AnswerTerms.{Given, End, Failure, DeliveryOutcome, done, status_of_answer, DeliversSome, Closed}
 use Rattle.job_answers.proofs.GivenAnswers.{given_is_no_refusal, some_bytes}
 use Rattle.job_answers.proofs.PiecesWritten.{no_piece_written, further, next_piece_fails, broken_answer}
 use Rattle.job_answers.proofs.StartLaws.{taken_start}
@@ -83,8 +76,8 @@ module _ (g : EventGraph) (options : ReplicateOptions) where
     here = subst (λ (left : List ℕ). IsWrittenUpTo left bytes o m) (next_left t number below) h
 
     -- the rows of the next run are written
-    pub run_told : later ≡ with_run t tally → WritesPieces (run_rows g number seed tally) (Ok tt) m p → IsWrittenUpTo (Left later (number + 1)) bytes o p
-    run_told added k =
+    pub run_written : later ≡ with_run t tally → WritesPieces (run_rows g number seed tally) (Ok tt) m p → IsWrittenUpTo (Left later (number + 1)) bytes o p
+    run_written added k =
         subst (λ (x : RunTotals). IsWrittenUpTo (Left x (number + 1)) bytes o p) (sym (added ∙ ap (with_run t) tallied))
         (further (rows_numbered g options number) (Left (with_run t (tally_numbered g options number)) (number + 1)) bytes o m p here (subst (λ (b : List ℕ). WritesPieces b (Ok tt) m p) rows_are k))
 

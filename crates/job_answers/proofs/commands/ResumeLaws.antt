@@ -13,19 +13,14 @@ use Rattle.model_core.specs.Saved.SavedRun.{SavedRun, saved_moment, history_from
 use Rattle.run_control.specs.Running.{Running}
 use Rattle.run_snapshot.specs.ResumedRun.{ResumedRun}
 use Rattle.watch_trace.specs.Tracing.{Tracing, moment_of}
-use Rattle.answer_delivery.specs.declared.answer.Answer.{Answer}
-use Rattle.answer_delivery.specs.declared.answer.Answer.TheVariants.{Refused}
-use Rattle.answer_delivery.specs.declared.delivering.DeliveryOutcome.{DeliveryOutcome}
 use Rattle.answer_delivery.specs.declared.delivering.DeliveryOutcome.TheVariants as said
-use Rattle.answer_delivery.specs.declared.status.Failure.{Failure}
 use Rattle.answer_delivery.specs.declared.status.Refusal.TheVariants as refusals
 use Rattle.job_answers.specs.AnswerLaws.{KeepsAnswerLaws}
-use Rattle.answer_delivery.specs.Delivery.{DeliversSome}
 use Rattle.job_answers.specs.RunAnswer.{answer_of_look, refused_or}
 use Rattle.job_answers.specs.ResumeAnswer.{resume_refusal, resume_answer, ResumedExceedsRoom}
-use Rattle.answer_delivery.specs.Statuses.{status_of_answer}
 use Rattle.job_answers.specs.Inner.RunSteps.{DeliversHistory}
-use Rattle.job_answers.proofs.HistoryLaws.{told_has_bytes, told_unrefused}
+use Rattle.job_answers.proofs.AnswerTerms.{Answer, Refused, Failure, DeliveryOutcome, status_of_answer, DeliversSome}
+use Rattle.job_answers.proofs.HistoryLaws.{look_has_bytes, look_unrefused}
 
 module _ {K : Type 0} (sight : K → Outlet) (g : EventGraph) (s : SavedRun) (o : ResumeOptions) where
   abbrev pub DeliversResumed : Result DeliveryOutcome Failure → K → K → Type 0
@@ -55,6 +50,6 @@ pub resume_laws : (options : ResumeOptions) → KeepsAnswerLaws (OfSaved (Resume
 resume_laws o = record {
   exists = λ d read. (resume_answer d.0 d.1 o.until o.events, refl);
   one = λ d a b x y. x ∙ sym y;
-  has_bytes = λ d end bytes h. inr (told_has_bytes d.0 o.until o.events (resume_refusal d.1 o.until o.events) (history_from d.0 d.1 o.until o.events) end bytes h);
-  unrefused = λ d a h e. told_unrefused d.0 o.until o.events (resume_refusal d.1 o.until o.events) (history_from d.0 d.1 o.until o.events) (sym (ap status_of_answer h) ∙ e);
+  has_bytes = λ d end bytes h. inr (look_has_bytes d.0 o.until o.events (resume_refusal d.1 o.until o.events) (history_from d.0 d.1 o.until o.events) end bytes h);
+  unrefused = λ d a h e. look_unrefused d.0 o.until o.events (resume_refusal d.1 o.until o.events) (history_from d.0 d.1 o.until o.events) (sym (ap status_of_answer h) ∙ e);
 }

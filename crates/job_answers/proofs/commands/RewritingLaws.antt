@@ -8,12 +8,10 @@ use Rattle.model_core.specs.Ranges.Narrowed.{IsNarrowed}
 use Rattle.model_core.specs.Text.Canonical.{canonical}
 use Rattle.command_words.specs.declared.reading.ModelJob.TheVariants.{Fuse, Narrow}
 use Rattle.command_words.specs.declared.reading.Reading.TheVariants.{Model}
-use Rattle.answer_delivery.specs.declared.answer.Answer.{Answer}
 use Rattle.answer_delivery.specs.declared.status.End.TheVariants as ends
-use Rattle.answer_delivery.specs.AnswerForms.{done, IsDone}
 use Rattle.job_answers.specs.AnswerLaws.{HasOneAnswer, KeepsAnswerLaws}
 use Rattle.job_answers.specs.RewrittenAnswer.{Rewrites}
-use Rattle.answer_delivery.specs.Statuses.{status_of_answer}
+use Rattle.job_answers.proofs.AnswerTerms.{Answer, done, IsDone, status_of_answer}
 use Rattle.job_answers.proofs.GivenAnswers.{some_bytes, end_unrefused}
 use Rattle.job_answers.proofs.commands.PrintLaws.{canonical_has_bytes}
 

@@ -6,12 +6,9 @@ use Rattle.model_core.specs.EventGraph.{EventGraph}
 use Rattle.model_core.specs.Run.Same.{Same}
 use Rattle.model_core.specs.Static.Reading.{Reads, IsValid}
 use Rattle.model_core.specs.Text.Canonical.{canonical}
-use Rattle.answer_delivery.specs.declared.answer.Answer.TheVariants.{Given}
-use Rattle.answer_delivery.specs.declared.answer.Answer.{Answer}
-use Rattle.answer_delivery.specs.declared.status.End.{End}
 use Rattle.job_answers.specs.Answers.{AnswersModel, Responds, Answers}
-use Rattle.answer_delivery.specs.AnswerForms.{IsDone}
 use Rattle.job_answers.specs.RewrittenAnswer.{Rewrites, RewritesTheSame}
+use Rattle.job_answers.proofs.AnswerTerms.{Answer, Given, End, IsDone}
 use Rattle.job_answers.proofs.GivenAnswers.{given_is_no_refusal, given_bytes}
 
 -- what a valid model becomes is valid and means the same, and what is valid reads back
@@ -34,7 +31,7 @@ module _ (Becomes : EventGraph → EventGraph → Type 0) (law : KeepsMeaningAs 
 
   module _ (job : ModelJob) (answers_so : (g : EventGraph) (a : Answer) → AnswersModel job g a → IsDone (Rewrites Becomes g) a) where
     of_model : (text out : List ℕ) (end : End) → Responds (Model job) text (Given end out) → RewritesTheSame Becomes text out
-    of_model text out end (inl h) = absurd (given_is_no_refusal h.told)
+    of_model text out end (inl h) = absurd (given_is_no_refusal h.refuses)
     of_model text out end (inr h) =
         let is = answers_so h.0 (Given end out) h.2 in
         subst (λ (b : List ℕ). RewritesTheSame Becomes text b) (sym (given_bytes is.2)) (rewritten text is.0 h.0 h.1 is.1)

@@ -13,16 +13,12 @@ use Rattle.model_core.specs.Run.Step.{Configuration}
 use Rattle.run_control.specs.Beginning.{BegunRun}
 use Rattle.run_control.specs.Running.{Running}
 use Rattle.watch_trace.specs.Tracing.{Tracing, moment_of}
-use Rattle.answer_delivery.specs.declared.answer.Answer.{Answer}
-use Rattle.answer_delivery.specs.declared.delivering.DeliveryOutcome.{DeliveryOutcome}
-use Rattle.answer_delivery.specs.declared.status.Failure.{Failure}
 use Rattle.job_answers.specs.AnswerLaws.{KeepsAnswerLaws}
-use Rattle.answer_delivery.specs.Delivery.{DeliversSome}
 use Rattle.job_answers.specs.RunAnswer.{answer_of_look, refused_or, run_answer, ExceedsRoom}
 use Rattle.job_answers.specs.StartingValues.{start_refusal}
-use Rattle.answer_delivery.specs.Statuses.{status_of_answer}
 use Rattle.job_answers.specs.Inner.RunSteps.{DeliversHistory}
-use Rattle.job_answers.proofs.HistoryLaws.{told_has_bytes, told_unrefused}
+use Rattle.job_answers.proofs.AnswerTerms.{Answer, Failure, DeliveryOutcome, status_of_answer, DeliversSome}
+use Rattle.job_answers.proofs.HistoryLaws.{look_has_bytes, look_unrefused}
 use Rattle.job_answers.proofs.StartLaws.{taken_start}
 
 -- ---- the run
@@ -42,9 +38,9 @@ pub run_delivered : {K : Type 0} (sight : K → Outlet) (m : Model) (until seed 
 run_delivered sight m until seed events room starts r t result o p begun noted delivers =
     let roomy : room ≤ r.spare + length r.now.pending = omega (arith, begun.roomy) in
     let here : moment_of r t ≡ start (graph_of r.model) starts = at_start (graph_of r.model) starts r t (begun.now ∙ ap (λ n. (start (graph_of n) starts).now) (sym begun.model)) noted in
-    let told : answer_of_look (graph_of m) until events (look (graph_of m) seed starts until events) ≡ run_answer (graph_of m) until seed events starts =
+    let is_answer : answer_of_look (graph_of m) until events (look (graph_of m) seed starts until events) ≡ run_answer (graph_of m) until seed events starts =
     ap (λ s. refused_or s (answer_of_look (graph_of m) until events (look (graph_of m) seed starts until events))) (sym (taken_start (graph_of m) starts begun.accepted)) in
-    subst (λ (x : Answer). DeliversSome sight (λ a. a ≡ x) (ExceedsRoom (graph_of m) until seed events starts room) result o p) told
+    subst (λ (x : Answer). DeliversSome sight (λ a. a ≡ x) (ExceedsRoom (graph_of m) until seed events starts room) result o p) is_answer
     (subst (λ (s : ℕ). DeliversHistory sight (graph_of m) until s events (start (graph_of m) starts) room result o p) begun.seeded
     (subst (λ (n : Model). DeliversHistory sight (graph_of n) until r.seed events (start (graph_of n) starts) room result o p) begun.model
     (subst (λ (here : Moment). DeliversHistory sight (graph_of r.model) until r.seed events here room result o p) here (delivers room roomy))))
@@ -57,6 +53,6 @@ run_laws options =
     record {
       exists = λ g valid. (run_answer g options.until options.seed options.events options.starts, refl);
       one = λ g a b x y. x ∙ sym y;
-      has_bytes = λ g end bytes h. inr (told_has_bytes g options.until options.events (start_refusal g options.starts) (seen g) end bytes h);
-      unrefused = λ g a h e. told_unrefused g options.until options.events (start_refusal g options.starts) (seen g) (sym (ap status_of_answer h) ∙ e);
+      has_bytes = λ g end bytes h. inr (look_has_bytes g options.until options.events (start_refusal g options.starts) (seen g) end bytes h);
+      unrefused = λ g a h e. look_unrefused g options.until options.events (start_refusal g options.starts) (seen g) (sym (ap status_of_answer h) ∙ e);
     }

@@ -2,7 +2,7 @@
 use Rattle.std.proofs.Common.{◌≡◌, inr, ℕ, ◌++◌, ◌<◌, ◌≤◌, ◌^◌, ℤ, Bool, true, false, cond, List, length, Option, Some, None, refl, sym, ap, ap₂, ◌∙◌, subst, arith}
 use Rattle.std.specs.Prelude.{IsTrue, nat_le}
 use Rattle.std.proofs.lemmas.Option.{same_Some}
-use Rattle.sig_base.specs.declared.limits.TheConstants.{DOCUMENT_MAX}
+use Rattle.sig_base.specs.declared.limits.TheConstants.{DOCUMENT_MAX, STOP_MAX, EVENTS_MAX}
 use Rattle.command_words.specs.declared.reading.ModelJob.TheVariants.{Save}
 use Rattle.command_words.specs.declared.reading.Reading.TheVariants.{Model as OfModel}
 use Rattle.command_words.specs.declared.save_options.SaveOptions.{SaveOptions}
@@ -23,19 +23,15 @@ use Rattle.watch_trace.specs.declared.outcome.Outcome.{Outcome}
 use Rattle.watch_trace.specs.declared.outcome.Outcome.TheVariants as outcomes
 use Rattle.watch_trace.specs.Tracing.{Tracing, moment_of}
 use Rattle.watch_trace.specs.Following.{outcome_of, run_look, Completes, StepsLead}
-use Rattle.answer_delivery.specs.declared.answer.Answer.{Answer}
-use Rattle.answer_delivery.specs.declared.answer.Answer.TheVariants.{Given, Refused}
-use Rattle.answer_delivery.specs.declared.status.End.{End}
 use Rattle.answer_delivery.specs.declared.status.End.TheVariants as ends
 use Rattle.answer_delivery.specs.declared.status.Refusal.TheVariants as refusals
 use Rattle.answer_delivery.specs.declared.status.Status.TheVariants as statuses
-use Rattle.answer_delivery.specs.AnswerForms.{done}
 use Rattle.job_answers.specs.AnswerLaws.{KeepsAnswerLaws}
 use Rattle.job_answers.specs.RunAnswer.{refused_or}
 use Rattle.job_answers.specs.SaveAnswer.{run_finished, snapshot_too_long, document_reached, unless_too_long, unless_finished, saving_answer, save_answer}
 use Rattle.job_answers.specs.StartingValues.{start_refusal}
-use Rattle.answer_delivery.specs.Statuses.{status_of_answer}
 use Rattle.job_answers.specs.Inner.SaveSteps.{SavedOrFinished}
+use Rattle.job_answers.proofs.AnswerTerms.{Answer, Given, Refused, End, done, status_of_answer}
 use Rattle.job_answers.proofs.GivenAnswers.{given_is_no_refusal, some_bytes, end_unrefused}
 use Rattle.job_answers.proofs.commands.PrintLaws.{canonical_has_bytes}
 use Rattle.job_answers.proofs.commands.RunLaws.{at_start}
@@ -43,11 +39,11 @@ use Rattle.job_answers.proofs.StartLaws.{taken_start}
 
 -- ---- what is saved of a run that was followed
 
-going_so : (s : RunStatus) → outcomes.Budget ≡ outcome_of s → s ≡ Going
-going_so Going e = refl
-going_so (Ended t) e = absurd cc
-going_so Stopped e = absurd cc
-going_so (Faulted t kind) e = absurd cc
+budget-going : (s : RunStatus) → outcomes.Budget ≡ outcome_of s → s ≡ Going
+budget-going Going e = refl
+budget-going (Ended t) e = absurd cc
+budget-going Stopped e = absurd cc
+budget-going (Faulted t kind) e = absurd cc
 
 not_going : (s : RunStatus) (outcome : Outcome) → outcome ≡ outcome_of s → (outcome ≡ outcomes.Budget → ⊥) → s ≡ Going → ⊥
 not_going s outcome is other going = other (is ∙ ap outcome_of going)
@@ -74,7 +70,7 @@ module _ (m : Model) (until seed events room : ℕ) (starts : List ℤ) (r : Run
       let reach : Model → ℕ → ℕ → Option (Reached Moment) = λ n k steps. reached_from (graph_of n) k until steps (start (graph_of n) starts) in
       let leads : reached_from (graph_of m) seed until events (start (graph_of m) starts) ≡ Some h.here =
       sym (ap (reached_from g r.seed until h.steps) here ∙ ap₂ (λ n k. reach n k h.steps) begun.model begun.seeded ∙ ap (reach m seed) all) ∙ h.lead in
-      (ap (λ (l : Look). l.standing) (sym seen_is) ∙ going_so (run_look until events r t).standing completes.0, (h.here, leads, is ∙ ap₂ (saved seed) turns there))
+      (ap (λ (l : Look). l.standing) (sym seen_is) ∙ budget-going (run_look until events r t).standing completes.0, (h.here, leads, is ∙ ap₂ (saved seed) turns there))
 
   -- it doesn't go on
   pub is_finished : (outcome : Outcome) → outcome ≡ outcome_of (run_look until events r t).standing → (outcome ≡ outcomes.Budget → ⊥) → SavedOrFinished (graph_of m) until seed events starts None
@@ -84,7 +80,7 @@ module _ (m : Model) (until seed events room : ℕ) (starts : List ℤ) (r : Run
 
 -- what holds of a run that goes on
 abbrev pub RunsResume : Type 0
-RunsResume = (g : EventGraph) (seed : ℕ) (starts : List ℤ) (until n : ℕ) → seed < 2 ^ 64 → IsTrue (allowed g starts) → until ≤ 2 ^ 48 → n ≤ 2 ^ 40 → (look g seed starts until n).standing ≡ Going
+RunsResume = (g : EventGraph) (seed : ℕ) (starts : List ℤ) (until n : ℕ) → seed < 2 ^ 64 → IsTrue (allowed g starts) → until ≤ STOP_MAX → n ≤ EVENTS_MAX → (look g seed starts until n).standing ≡ Going
     → (m : Moment) × GoesOn g seed starts until n m × Resumes g seed starts until n m
 
 module _ (g : EventGraph) (o : SaveOptions) where
@@ -101,14 +97,14 @@ module _ (g : EventGraph) (o : SaveOptions) where
       ap (λ x. unless_too_long (canonical g ++ snapshot_text g x)) is ∙ ap (λ x. unless_too_long (document_reached g o.seed o.events x)) (sym leads)
       ∙ ap (λ x. unless_finished x (unless_too_long (document_reached g o.seed o.events (reached_from g o.seed o.until o.events (start g o.starts))))) (sym going)
 
-  finished_so : (s : RunStatus) (a : Answer) → (s ≡ Going → ⊥) → Refused refusals.Finished run_finished ≡ unless_finished s a
-  finished_so Going a other = absurd (other refl)
-  finished_so (Ended t) a other = refl
-  finished_so Stopped a other = refl
-  finished_so (Faulted t kind) a other = refl
+  not_going_is_finished : (s : RunStatus) (a : Answer) → (s ≡ Going → ⊥) → Refused refusals.Finished run_finished ≡ unless_finished s a
+  not_going_is_finished Going a other = absurd (other refl)
+  not_going_is_finished (Ended t) a other = refl
+  not_going_is_finished Stopped a other = refl
+  not_going_is_finished (Faulted t kind) a other = refl
 
   pub finished_answer : SavedOrFinished g o.until o.seed o.events o.starts None → Refused refusals.Finished run_finished ≡ saving_answer g o
-  finished_answer none = finished_so (look g o.seed o.starts o.until o.events).standing _ none
+  finished_answer none = not_going_is_finished (look g o.seed o.starts o.until o.events).standing _ none
 
   -- a run that begins isn't refused
   pub begun_answer : IsTrue (allowed g o.starts) → saving_answer g o ≡ save_answer g o

@@ -5,9 +5,8 @@ use Rattle.command_words.specs.declared.reading.Reading.TheVariants.{Nothing}
 use Rattle.command_words.specs.declared.trial_options.TrialOptions.{TrialOptions}
 use Rattle.trial_report.specs.TrialText.{Summarises}
 use Rattle.answer_delivery.specs.declared.status.End.TheVariants as ends
-use Rattle.answer_delivery.specs.AnswerForms.{done}
 use Rattle.job_answers.specs.AnswerLaws.{KeepsAnswerLaws}
-use Rattle.answer_delivery.specs.Statuses.{status_of_answer}
+use Rattle.job_answers.proofs.AnswerTerms.{done, status_of_answer}
 use Rattle.job_answers.proofs.GivenAnswers.{some_bytes, end_unrefused}
 
 -- each trial has one summary, which has bytes

@@ -18,7 +18,7 @@ pub record TextFacts : Type 0 where
   pub one_place : (text : List ℕ) (tokens : List Lexeme) (i j : ℕ) → IsUnexpectedAt text tokens i → IsUnexpectedAt text tokens j → i ≡ j
   pub none_deep : (tokens : List Lexeme) → too_deep_at OPENINGS_MAX tokens ≡ None → HasFewOpenings OPENINGS_MAX tokens
   pub few_openings : (tokens : List Lexeme) → HasFewOpenings OPENINGS_MAX tokens → too_deep_at OPENINGS_MAX tokens ≡ None
-  pub told : (m : WrittenModel) (f : StaticFault) → first_fault m ≡ Some f → IsFirstFault m f.kind f.at
-  pub told_back : (m : WrittenModel) (f : StaticFault) → IsFirstFault m f.kind f.at → first_fault m ≡ Some f
+  pub fault_is_first : (m : WrittenModel) (f : StaticFault) → first_fault m ≡ Some f → IsFirstFault m f.kind f.at
+  pub first_is_fault : (m : WrittenModel) (f : StaticFault) → IsFirstFault m f.kind f.at → first_fault m ≡ Some f
   pub accepted : (m : WrittenModel) → first_fault m ≡ None → (g : EventGraph) × Accepted m g
   pub accepted_has_no_fault : (m : WrittenModel) → ((g : EventGraph) × Accepted m g) → first_fault m ≡ None

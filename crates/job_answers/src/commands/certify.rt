@@ -5,9 +5,10 @@ ghost use Rattle.std.specs.Prelude.{◌≡◌, List, ℕ, map, IfOk};
 ghost use Rattle.command_words.specs.declared.reading.DocumentJob.TheVariants.{Certify};
 ghost use Rattle.command_words.specs.declared.reading.Reading.TheVariants.{Document as OfDocument};
 ghost use Rattle.model_core.specs.Code.Views.{graph_of, application_of};
+ghost use Rattle.model_core.specs.Rules.Verdict.{verdict};
 ghost use Rattle.reduction_cert.specs.VerdictView.{verdict_of};
 ghost use Rattle.job_answers.specs.Answers.{Answers};
-ghost use Rattle.job_answers.specs.CertifyAnswer.{answer_of_verdict, certify_answer, Certifies};
+ghost use Rattle.job_answers.specs.CertifyAnswer.{answer_of_verdict, Certifies};
 ghost use Rattle.answer_delivery.specs.declared.answer.Answer.TheVariants.{Given as Gives};
 ghost use Rattle.answer_delivery.specs.declared.status.End.TheVariants.{Done as IsDone};
 
@@ -52,8 +53,8 @@ fn verdict_answer(alloc: Global, verdict: Verdict) -> Result<Answer, NoMemory>
 /// Whether the certificate of the document holds.
 pub fn certify(alloc: Global, document: &Document) -> Result<Answer, NoMemory>
     ensures { IfOk result
-        (λ a. a ≡ certify_answer (graph_of document.now.original)
-        (map application_of document.now.applications) (graph_of document.now.reduced)) }
+        (λ a. a ≡ answer_of_verdict (verdict (graph_of document.now.original)
+        (map application_of document.now.applications) (graph_of document.now.reduced))) }
 {
     let verdict = check_chain(
         alloc,

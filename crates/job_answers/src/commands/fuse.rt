@@ -7,7 +7,6 @@ ghost use Rattle.model_core.specs.Rules.Fuse.{Fused};
 ghost use Rattle.model_core.specs.Code.Views.{graph_of};
 ghost use Rattle.answer_delivery.specs.AnswerForms.{IsDone};
 ghost use Rattle.answer_delivery.specs.declared.answer.Answer.TheVariants.{Given};
-ghost use Rattle.answer_delivery.specs.declared.status.End.{End as EndOfJob};
 ghost use Rattle.job_answers.specs.Answers.{Answers};
 ghost use Rattle.job_answers.specs.RewrittenAnswer.{Rewrites, RewritesTheSame};
 
@@ -30,7 +29,7 @@ pub fn fuse(alloc: Global, model: Model) -> Result<Answer, NoMemory>
 /// What `fuse` writes for a text reads back as the model of the text with its duplicated vertices merged, and means the
 /// same. The function does nothing: what it ensures holds of all texts.
 pub fn fused_models_mean_the_same()
-    ensures { (text out : List ℕ) (end : EndOfJob) → Answers (OfModel Fuse) text (Given end out)
+    ensures { (text out : List ℕ) (end : End) → Answers (OfModel Fuse) text (Given end out)
         → RewritesTheSame Fused text out }
 {
     validity_is_by_parts();

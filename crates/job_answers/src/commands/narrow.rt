@@ -8,7 +8,6 @@ ghost use Rattle.model_core.specs.Ranges.Narrowed.{IsNarrowed};
 ghost use Rattle.model_core.specs.Code.Views.{graph_of};
 ghost use Rattle.answer_delivery.specs.AnswerForms.{IsDone};
 ghost use Rattle.answer_delivery.specs.declared.answer.Answer.TheVariants.{Given};
-ghost use Rattle.answer_delivery.specs.declared.status.End.{End as EndOfJob};
 ghost use Rattle.job_answers.specs.Answers.{Answers};
 ghost use Rattle.job_answers.specs.RewrittenAnswer.{Rewrites, RewritesTheSame};
 
@@ -34,7 +33,7 @@ pub fn narrow(alloc: Global, model: Model) -> Result<Answer, NoMemory>
 /// What `narrow` writes for a text reads back as the model of the text with the ranges that it needs, and means the same.
 /// The function does nothing: what it ensures holds of all texts.
 pub fn narrower_models_mean_the_same()
-    ensures { (text out : List ℕ) (end : EndOfJob) → Answers (OfModel Narrow) text (Given end out)
+    ensures { (text out : List ℕ) (end : End) → Answers (OfModel Narrow) text (Given end out)
         → RewritesTheSame IsNarrowed text out }
 {
     validity_is_by_parts();

@@ -9,7 +9,6 @@ ghost use Rattle.model_core.specs.Rules.Certificate.{certificate};
 ghost use Rattle.model_core.specs.Code.Views.{graph_of, application_of};
 ghost use Rattle.answer_delivery.specs.AnswerForms.{IsDone};
 ghost use Rattle.answer_delivery.specs.declared.answer.Answer.TheVariants.{Given};
-ghost use Rattle.answer_delivery.specs.declared.status.End.{End as EndOfJob};
 ghost use Rattle.job_answers.specs.Answers.{Answers};
 ghost use Rattle.job_answers.specs.ReduceAnswer.{Reduces, KeepsMeaning};
 
@@ -47,7 +46,7 @@ pub fn reduce(alloc: Global, model: Model) -> Result<Answer, NoMemory>
 /// What `reduce` writes for a text reads back as the reduced model, which means the same as the model of the text. The
 /// function does nothing: what it ensures holds of all texts.
 pub fn written_models_mean_the_same()
-    ensures { (text out : List ℕ) (end : EndOfJob) → Answers (OfModel Reduce) text (Given end out)
+    ensures { (text out : List ℕ) (end : End) → Answers (OfModel Reduce) text (Given end out)
         → KeepsMeaning text out }
 {
     validity_is_by_parts();

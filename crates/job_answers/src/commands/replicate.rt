@@ -1,7 +1,7 @@
 //! `replicate`: the report of many runs of a model, written run by run, or why they can't begin.
 
-ghost use Rattle.std.specs.Prelude.{◌≡◌, ◌≤◌, ◌<◌, ◌^◌, All, IfOk};
-ghost use Rattle.sig_base.specs.declared.limits.TheConstants.{RUNS_MAX};
+ghost use Rattle.std.specs.Prelude.{◌≡◌, ◌≤◌, ◌<◌, All, IfOk};
+ghost use Rattle.sig_base.specs.declared.limits.TheConstants.{STOP_MAX, EVENTS_MAX, RUNS_MAX};
 ghost use Rattle.model_core.specs.Static.Reading.{IsValid};
 ghost use Rattle.model_core.specs.Code.Views.{graph_of};
 ghost use Rattle.tally_report.specs.SmallAreas.{IsOfRuns};
@@ -38,10 +38,10 @@ fn tally_numbered(
     number: u64,
 ) -> Result<RunTally, TallyError>
     requires valid { IsValid (graph_of model.now) }
-    requires soon { options.now.until ≤ 2 ^ 48 }
-    requires budget { options.now.events ≤ 2 ^ 40 }
+    requires soon { options.now.until ≤ STOP_MAX }
+    requires budget { options.now.events ≤ EVENTS_MAX }
     requires first { 0 < number }
-    ensures told { IfOk result
+    ensures of_run { IfOk result
         (λ tally. tally ≡ tally_numbered (graph_of model.now) options.now number) }
     ensures small { IfOk result (λ tally. All (IsOfRuns 1) tally.items) }
 {
@@ -67,7 +67,7 @@ fn write_run_rows<K: Sink>(
     totals: &mut Totals,
     output: &mut K,
 ) -> Result<(), Failure>
-    requires few { totals.old.runs < RUNS_MAX }
+    requires below_maximum { totals.old.runs < RUNS_MAX }
     requires small { All (IsOfRuns 1) tally.now.items }
     ensures written { WritesPieces (run_rows (graph_of model.now) number seed tally.now) result
         (K.seen output.old) (K.seen output.new) }
@@ -88,10 +88,10 @@ fn write_all_runs<K: Sink>(
     output: &mut K,
 ) -> Result<(), Failure>
     requires valid { IsValid (graph_of model.now) }
-    requires soon { options.now.until ≤ 2 ^ 48 }
-    requires budget { options.now.events ≤ 2 ^ 40 }
-    requires few { options.now.runs ≤ RUNS_MAX }
-    requires none { totals.runs ≡ 0 }
+    requires soon { options.now.until ≤ STOP_MAX }
+    requires budget { options.now.events ≤ EVENTS_MAX }
+    requires within_maximum { options.now.runs ≤ RUNS_MAX }
+    requires without_runs { totals.runs ≡ 0 }
     ensures { WritesPieces
         (rest_of_report (graph_of model.now) options.now totals 1 options.now.runs) result
         (K.seen output.old) (K.seen output.new) }
@@ -117,9 +117,9 @@ fn write_report<K: Sink>(
     output: &mut K,
 ) -> Result<(), Failure>
     requires valid { IsValid (graph_of model.now) }
-    requires soon { options.now.until ≤ 2 ^ 48 }
-    requires budget { options.now.events ≤ 2 ^ 40 }
-    requires few { options.now.runs ≤ RUNS_MAX }
+    requires soon { options.now.until ≤ STOP_MAX }
+    requires budget { options.now.events ≤ EVENTS_MAX }
+    requires within_maximum { options.now.runs ≤ RUNS_MAX }
     ensures { WritesPieces (report (graph_of model.now) options.now) result (K.seen output.old)
         (K.seen output.new) }
 {
@@ -136,10 +136,10 @@ pub fn replicate<K: Sink>(
     output: &mut K,
 ) -> Result<DeliveryOutcome, Failure>
     requires valid { IsValid (graph_of model.now) }
-    requires soon { options.now.until ≤ 2 ^ 48 }
-    requires budget { options.now.events ≤ 2 ^ 40 }
-    requires some { 0 < options.now.runs }
-    requires few { options.now.runs ≤ RUNS_MAX }
+    requires soon { options.now.until ≤ STOP_MAX }
+    requires budget { options.now.events ≤ EVENTS_MAX }
+    requires has_run { 0 < options.now.runs }
+    requires within_maximum { options.now.runs ≤ RUNS_MAX }
     ensures { DeliversSome K.seen (λ a. a ≡ replicate_answer (graph_of model.now) options.now)
         (Unit {0}) result output.old output.new }
 {

@@ -2,6 +2,7 @@
 //! that it goes on from what `save` would write.
 
 ghost use Rattle.std.specs.Prelude.{◌≡◌, ◌+◌, ◌<◌, ◌≤◌, ◌^◌, ℕ, List, [], ◌++◌, length, IfOk, None, Ok};
+ghost use Rattle.sig_base.specs.declared.limits.TheConstants.{STOP_MAX};
 ghost use Rattle.model_core.specs.EventGraph.{EventGraph};
 ghost use Rattle.model_core.specs.Saved.GoodSnapshots.{bad_at, saved_run};
 ghost use Rattle.model_core.specs.Saved.SavedRun.{IsGood};
@@ -16,7 +17,7 @@ ghost use Rattle.job_answers.specs.PlainKinds.{plain_kinds};
 ghost use Rattle.job_answers.specs.ResumeAnswer.{below_clock_line, too_many_events, resume_refusal, resume_answer, ResumedExceedsRoom};
 ghost use Rattle.answer_delivery.specs.Delivery.{DeliversSome};
 
-use crate::history_telling::write_history_from;
+use crate::history_writing::write_history_from;
 use answer_delivery::{DeliveryOutcome, Failure, Refusal};
 use command_words::ResumeOptions;
 use event_heap::HeapPending;
@@ -56,8 +57,8 @@ fn resume_refusal(
     snapshot: &Snapshot,
     options: &ResumeOptions,
 ) -> Result<Option<Text>, NoMemory>
-    requires saved { snapshot.now.events ≤ 2 ^ 40 }
-    requires budget { options.now.events ≤ 2 ^ 40 }
+    requires saved { snapshot.now.events ≤ EVENTS_MAX }
+    requires budget { options.now.events ≤ EVENTS_MAX }
     ensures { IfOk result
         (λ refusal. refusal ≡ resume_refusal snapshot.now options.now.until options.now.events) }
 {
@@ -81,11 +82,11 @@ fn resume_over<P: Pending + Drop, K: Sink>(
 ) -> Result<DeliveryOutcome, Failure>
     requires valid { IsValid (graph_of model.now) }
     requires good { IsGood (graph_of model.now) snapshot.now }
-    requires few { length snapshot.now.pending < 2 ^ 61 }
+    requires can_be_counted { length snapshot.now.pending < 2 ^ 61 }
     requires empty { P.entries pending ≡ [] }
     requires fresh { P.numbered pending ≡ 0 }
     requires made_for { P.vertices pending ≡ length model.now.vertices }
-    requires soon { options.now.until ≤ 2 ^ 48 }
+    requires soon { options.now.until ≤ STOP_MAX }
     requires allowed { resume_refusal snapshot.now options.now.until options.now.events ≡ None }
     ensures { DeliversSome K.seen
         (λ a. a ≡ resume_answer
@@ -118,8 +119,8 @@ pub fn resume<K: Sink>(
 ) -> Result<DeliveryOutcome, Failure>
     requires valid { IsValid (graph_of model.now) }
     requires good { IsGood (graph_of model.now) snapshot.now }
-    requires soon { options.now.until ≤ 2 ^ 48 }
-    requires budget { options.now.events ≤ 2 ^ 40 }
+    requires soon { options.now.until ≤ STOP_MAX }
+    requires budget { options.now.events ≤ EVENTS_MAX }
     ensures { DeliversSome K.seen
         (λ a. a ≡ resume_answer
         (graph_of model.now) snapshot.now options.now.until options.now.events)

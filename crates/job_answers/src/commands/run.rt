@@ -1,13 +1,14 @@
 //! `run`: the history of a run of a model, written as it happens, or why the run can't begin.
 
-ghost use Rattle.std.specs.Prelude.{◌≡◌, ◌≤◌, ◌^◌};
+ghost use Rattle.std.specs.Prelude.{◌≡◌, ◌≤◌};
+ghost use Rattle.sig_base.specs.declared.limits.TheConstants.{STOP_MAX, EVENTS_MAX};
 ghost use Rattle.model_core.specs.Static.Reading.{IsValid};
 ghost use Rattle.model_core.specs.Code.Views.{graph_of};
 ghost use Rattle.job_answers.specs.RunAnswer.{run_answer, ExceedsRoom};
 ghost use Rattle.answer_delivery.specs.Delivery.{DeliversSome};
 
 use crate::beginning::{begin, refuse_start};
-use crate::history_telling::write_history_from;
+use crate::history_writing::write_history_from;
 use answer_delivery::{DeliveryOutcome, Failure};
 use command_words::RunOptions;
 use model_core::Model;
@@ -24,8 +25,8 @@ pub fn run<K: Sink>(
     output: &mut K,
 ) -> Result<DeliveryOutcome, Failure>
     requires valid { IsValid (graph_of model.now) }
-    requires soon { options.now.until ≤ 2 ^ 48 }
-    requires budget { options.now.events ≤ 2 ^ 40 }
+    requires soon { options.now.until ≤ STOP_MAX }
+    requires budget { options.now.events ≤ EVENTS_MAX }
     ensures { DeliversSome K.seen
         (λ a. a ≡ run_answer
         (graph_of model.now) options.now.until options.now.seed options.now.events options.now.starts)

@@ -2,9 +2,9 @@
 //! that `resume` goes on from it.
 
 ghost use Rattle.std.specs.Prelude.{◌≡◌, ◌<◌, ◌≤◌, ◌^◌, ℕ, List, IfOk};
+ghost use Rattle.sig_base.specs.declared.limits.TheConstants.{STOP_MAX, EVENTS_MAX};
 ghost use Rattle.command_words.specs.declared.reading.ModelJob.TheVariants.{Save};
 ghost use Rattle.command_words.specs.declared.reading.Reading.TheVariants.{Model as OfModel};
-ghost use Rattle.command_words.specs.declared.save_options.SaveOptions.{SaveOptions as Options};
 ghost use Rattle.command_words.specs.KeptLimits.{KeepsLimits};
 ghost use Rattle.model_core.specs.Saved.SavedRun.{IsGood};
 ghost use Rattle.model_core.specs.Static.Reading.{IsValid};
@@ -13,7 +13,6 @@ ghost use Rattle.run_control.specs.Beginning.{BegunRun};
 ghost use Rattle.answer_delivery.specs.Delivery.{DeliversSome};
 ghost use Rattle.job_answers.specs.SaveAnswer.{run_finished, snapshot_too_long, saved_document, unless_too_long, saving_answer, save_answer};
 ghost use Rattle.answer_delivery.specs.declared.answer.Answer.TheVariants.{Given as Gives, Refused as IsRefused};
-ghost use Rattle.answer_delivery.specs.declared.status.End.{End as EndOfJob};
 ghost use Rattle.answer_delivery.specs.declared.status.Refusal.TheVariants.{Finished, TooLarge};
 ghost use Rattle.job_answers.specs.Answers.{Answers};
 ghost use Rattle.job_answers.specs.SavedAndResumed.{SavesTheRun};
@@ -41,8 +40,8 @@ fn saved_part<'m, P: Pending + Drop>(
     model: &'m Model,
     options: &SaveOptions,
 ) -> Result<Option<Snapshot>, NoMemory>
-    requires soon { options.now.until ≤ 2 ^ 48 }
-    requires budget { options.now.events ≤ 2 ^ 40 }
+    requires soon { options.now.until ≤ STOP_MAX }
+    requires budget { options.now.events ≤ EVENTS_MAX }
     requires begun { (room : ℕ) × BegunRun model.now options.now.seed options.now.starts room run }
     ensures { IfOk result
         (SavedOrFinished
@@ -114,9 +113,9 @@ fn saving<'m, P: Pending + Drop>(
     options: &SaveOptions,
 ) -> Result<Answer, NoMemory>
     requires valid { IsValid (graph_of model.now) }
-    requires soon { options.now.until ≤ 2 ^ 48 }
+    requires soon { options.now.until ≤ STOP_MAX }
     requires wide { options.now.seed < 2 ^ 64 }
-    requires budget { options.now.events ≤ 2 ^ 40 }
+    requires budget { options.now.events ≤ EVENTS_MAX }
     requires begun { (room : ℕ) × BegunRun model.now options.now.seed options.now.starts room run }
     ensures { IfOk result (λ a. a ≡ saving_answer (graph_of model.now) options.now) }
 {
@@ -136,9 +135,9 @@ pub fn save<K: Sink>(
     output: &mut K,
 ) -> Result<DeliveryOutcome, Failure>
     requires valid { IsValid (graph_of model.now) }
-    requires soon { options.now.until ≤ 2 ^ 48 }
+    requires soon { options.now.until ≤ STOP_MAX }
     requires wide { options.now.seed < 2 ^ 64 }
-    requires budget { options.now.events ≤ 2 ^ 40 }
+    requires budget { options.now.events ≤ EVENTS_MAX }
     ensures { DeliversSome K.seen
         (λ a. a ≡ save_answer (graph_of model.now) options.now) ⊥ result output.old output.new }
 {
@@ -152,7 +151,7 @@ pub fn save<K: Sink>(
 /// What `save` writes for a text reads back, and what `resume` answers for that goes on as the whole run does. The function
 /// does nothing: what it ensures holds of all texts.
 pub fn saved_runs_are_resumed()
-    ensures { (o : Options) (text document : List ℕ) (end : EndOfJob)
+    ensures { (o : SaveOptions) (text document : List ℕ) (end : End)
         → KeepsLimits (OfModel (Save o))
         → Answers (OfModel (Save o)) text (Gives end document) → SavesTheRun text document o }
 {

@@ -1,5 +1,5 @@
 -- The clauses between the steps of a call: taking the text, doing the job, doing the job of the words.
-use Rattle.std.specs.Prelude.{◌≡◌, ◌⊎◌, ℕ, List, Option, None, Result, Ok, Err, IfSome}
+use Rattle.std.specs.Prelude.{◌≡◌, ◌⊎◌, ℕ, List, Option, None, Result, Ok, Err, IfSome, IsSome}
 use Rattle.sig_base.specs.Faults.{HasRisen}
 use Rattle.sig_base.specs.Sink.{Outlet}
 use Rattle.sig_base.specs.Source.{Inlet}
@@ -12,14 +12,14 @@ use Rattle.answer_delivery.specs.declared.status.Failure.TheVariants as failures
 use Rattle.job_answers.specs.Answers.{IsWithin, IsOver}
 use Rattle.sigma_top.specs.declared.text_taking.TakenText.{TakenText}
 use Rattle.sigma_top.specs.declared.text_taking.TakenText.TheVariants as taken
-use Rattle.sigma_top.specs.StatusTable.{text_of, HasLimit, IsReadToEnd, IsReadThrough, IsReadInPart, WritesAnswer, Refuses, FailsToRead, FailsToWrite, LacksMemory, ForJob}
+use Rattle.sigma_top.specs.StatusTable.{text_of, IsReadToEnd, IsReadThrough, IsReadInPart, WritesAnswer, Refuses, FailsToRead, FailsToWrite, LacksMemory, ForJob}
 
 -- what taking a text, up to a limit, did to the input
 abbrev pub TakesText : {S : Type 0} → (S → Inlet) → Option ℕ → Result TakenText Failure → S → S → Type 0
 TakesText seen limit (Ok (taken.Whole text)) i j =
     IfSome (text_of limit (seen i).left) (λ bytes. text ≡ bytes) × IsWithin limit text × IsReadToEnd seen limit i j × ((seen j).faults ≡ (seen i).faults)
 TakesText seen limit (Ok taken.TooLong) i j = IfSome (text_of limit (seen i).left) (IsOver limit) × IsReadThrough seen limit i j × ((seen j).faults ≡ (seen i).faults)
-TakesText seen limit (Err failures.ReadFault) i j = HasLimit limit × IsReadInPart seen limit i j × HasRisen (seen i).faults (seen j).faults
+TakesText seen limit (Err failures.ReadFault) i j = IsSome limit × IsReadInPart seen limit i j × HasRisen (seen i).faults (seen j).faults
 TakesText seen limit (Err failures.NoMemory) i j = IsReadInPart seen limit i j × ((seen j).faults ≡ (seen i).faults)
 TakesText seen limit (Err e) i j = ⊥
 

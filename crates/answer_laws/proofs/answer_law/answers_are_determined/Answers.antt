@@ -4,8 +4,8 @@ use Rattle.answer_laws.proofs.answer_law.answers_are_determined.Goals as goal
 
 pub returns : goal.returns
 returns c =
-    let told = c.texts_have_one_complaint.ensures in
-    let complaints : ComplaintLaws = record { one = told.one; none = told.none; some = told.some } in
+    let texts = c.texts_have_one_complaint.ensures in
+    let complaints : ComplaintLaws = record { one = texts.one; none = texts.none; some = texts.some } in
     let of_documents = c.documents_have_one_complaint.ensures in
     let documents : DocumentLaws = record { one = of_documents.one; none = of_documents.none; one_reading = of_documents.one_reading; some = of_documents.some } in
     let of_saved = c.saved_documents_have_one_complaint.ensures in

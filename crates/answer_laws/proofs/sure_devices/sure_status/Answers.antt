@@ -1,7 +1,6 @@
 -- Counts that are the constant 0 never rise.
-use Rattle.std.proofs.Common.{◌≡◌, ◌⊎◌, inl, inr, ℕ, List, Option, Some, None, ap, subst, arith}
+use Rattle.std.proofs.Common.{◌≡◌, ◌⊎◌, inl, inr, ℕ, List, Option, Some, None, ap, subst}
 use Rattle.std.specs.Prelude.{IfSome}
-use Rattle.sig_base.specs.Faults.{HasRisen}
 use Rattle.command_words.specs.declared.reading.Reading.{Reading}
 use Rattle.command_words.specs.Readings.{reading_of, limit_of}
 use Rattle.answer_delivery.specs.declared.answer.Answer.{Answer}
@@ -10,13 +9,10 @@ use Rattle.answer_delivery.specs.declared.status.Status.TheVariants.{NoMemory}
 use Rattle.job_answers.specs.Answers.{Answers}
 use Rattle.answer_delivery.specs.Statuses.{status_of_answer}
 use Rattle.sigma_top.specs.StatusTable.{text_of}
+use Rattle.answer_laws.proofs.SteadyDevices.{no_rise}
 use Rattle.answer_laws.proofs.sure_devices.sure_status.Goals as goal
 
-no_rise : HasRisen 0 0 → ⊥
-no_rise (inl h) = omega arith
-no_rise (inr (p, q)) = omega arith
-
--- what is known beside the status is let go
+-- of what holds beside the status nothing is kept
 status_alone : (reading : Reading) (status : Status) (o : Option (List ℕ)) (Grows : Answer → Type 0) → IfSome o (λ text. (a : Answer) × Answers reading text a × (status ≡ status_of_answer a) × Grows a)
     → IfSome o (λ text. (a : Answer) × Answers reading text a × (status ≡ status_of_answer a))
 status_alone reading status None Grows h = tt

@@ -11,12 +11,8 @@ use Rattle.model_core.specs.Rules.Reduction.{RuleApplication}
 use Rattle.model_core.specs.Saved.SavedRun.{SavedRun}
 use Rattle.model_core.specs.Static.Reading.{Reads, ReadsDocument}
 use Rattle.model_core.specs.Code.Views.{graph_of, application_of}
-use Rattle.answer_delivery.specs.declared.answer.Answer.{Answer}
 use Rattle.answer_delivery.specs.declared.complaint.Complaint.{Complaint}
-use Rattle.answer_delivery.specs.declared.delivering.DeliveryOutcome.{DeliveryOutcome}
-use Rattle.answer_delivery.specs.declared.status.Failure.{Failure}
 use Rattle.answer_delivery.specs.Complaints.{IsComplaint}
-use Rattle.answer_delivery.specs.Delivery.{DeliversSome}
 use Rattle.job_answers.specs.declared.reading_error.ReadingError.{ReadingError}
 use Rattle.job_answers.specs.declared.reading_error.ReadingError.TheVariants as readings
 use Rattle.job_answers.specs.Answers.{AnswersModel, AnswersDocument, AnswersSaved, MayLackMemory, SavedMayLackMemory, IsRefused, Responds, MayStopShort}
@@ -24,6 +20,7 @@ use Rattle.job_answers.specs.DocumentComplaints.{IsDocumentComplaint}
 use Rattle.job_answers.specs.SavedComplaints.{IsSavedComplaint}
 use Rattle.job_answers.specs.SavedReading.{ReadsSaved}
 use Rattle.job_answers.specs.Inner.Refusals.{Complains}
+use Rattle.job_answers.proofs.AnswerTerms.{Answer, Failure, DeliveryOutcome, DeliversSome}
 use Rattle.job_answers.proofs.SavedModels.{saved_model_valid}
 use Rattle.job_answers.proofs.answering.answer_text.Goals as goal
 
@@ -49,19 +46,19 @@ module _ {K : Type 0} (seen : K → Outlet) (text : List ℕ) (r : Result Delive
       → DeliversSome seen (AnswersDocument job g applications h) ⊥ r o p → DeliversReply (Document job)
   of_document job g applications h reads =
       replies (Document job) (AnswersDocument job g applications h) ⊥
-      (λ a is. inr (record { original = g; applications = applications; reduced = h; reads = reads; told = is })) (λ never. absurd never)
+      (λ a is. inr (g, applications, h, reads, is)) (λ never. absurd never)
 
   of_saved : (job : SavedJob) (g : EventGraph) (s : SavedRun) → ReadsSaved text g s → DeliversSome seen (AnswersSaved job g s) (SavedMayLackMemory job g s) r o p → DeliversReply (Saved job)
   of_saved job g s reads =
       replies (Saved job) (AnswersSaved job g s) (SavedMayLackMemory job g s)
-      (λ a is. inr (record { model = g; run = s; reads = reads; told = is })) (λ short. (g, s, reads, short))
+      (λ a is. inr (g, s, reads, is)) (λ short. (g, s, reads, short))
 
   -- ---- what couldn't be read
 
   complained : (reading : Reading) (IsSo : Complaint → ℕ → Type 0) → ((a : Answer) → IsRefused IsSo a → Responds reading text a)
       → (error : ReadingError) → ((what : Complaint) (at : ℕ) → error ≡ readings.At what at → IsSo what at) → Complains seen error r o p → DeliversReply reading
   complained reading IsSo refuses (readings.At what at) is h =
-      replies reading _ ⊥ (λ a told. refuses a (record { what = what; at = at; complaint = is what at refl; told = told })) (λ never. absurd never) h
+      replies reading _ ⊥ (λ a is_refusal. refuses a (record { what = what; at = at; complaint = is what at refl; refuses = is_refusal })) (λ never. absurd never) h
   complained reading IsSo refuses readings.NoMemory is h = inr h
 
   -- ---- the reading that is asked for
@@ -81,7 +78,7 @@ returns-in-Ok g c =
 pub returns-in-Err : goal.returns-in-Err
 returns-in-Err g c =
     of_reading g.K.Sink.seen c.args.text.now c.complain.result c.args.output.now c.complain.new.output c.args.reading.now (Model c.in-Model.job) c.in-Model.is
-    (complained g.K.Sink.seen c.args.text.now c.complain.result c.args.output.now c.complain.new.output (Model c.in-Model.job) (IsComplaint c.args.text.now) (λ a told. inl told) c.in-Err.error
+    (complained g.K.Sink.seen c.args.text.now c.complain.result c.args.output.now c.complain.new.output (Model c.in-Model.job) (IsComplaint c.args.text.now) (λ a refusal. inl refusal) c.in-Err.error
     (λ what at is. c.in-Err.ensures.complaint what at (ap (λ x. Err x) is)) c.complain.ensures)
 
 pub returns-in-Ok-document_of : goal.returns-in-Ok-document_of
@@ -94,7 +91,7 @@ returns-in-Ok-document_of g c =
 pub returns-in-Err-document_of : goal.returns-in-Err-document_of
 returns-in-Err-document_of g c =
     of_reading g.K.Sink.seen c.args.text.now c.complain-in-Err-document_of.result c.args.output.now c.complain-in-Err-document_of.new.output c.args.reading.now (Document c.in-Document.job) c.in-Document.is
-    (complained g.K.Sink.seen c.args.text.now c.complain-in-Err-document_of.result c.args.output.now c.complain-in-Err-document_of.new.output (Document c.in-Document.job) (IsDocumentComplaint c.args.text.now) (λ a told. inl told) c.in-Err-document_of.error
+    (complained g.K.Sink.seen c.args.text.now c.complain-in-Err-document_of.result c.args.output.now c.complain-in-Err-document_of.new.output (Document c.in-Document.job) (IsDocumentComplaint c.args.text.now) (λ a refusal. inl refusal) c.in-Err-document_of.error
     (λ what at is. c.in-Err-document_of.ensures.complaint what at (ap (λ x. Err x) is)) c.complain-in-Err-document_of.ensures)
 
 pub returns-in-Ok-saved_document_of : goal.returns-in-Ok-saved_document_of
@@ -106,5 +103,5 @@ returns-in-Ok-saved_document_of g c =
 pub returns-in-Err-saved_document_of : goal.returns-in-Err-saved_document_of
 returns-in-Err-saved_document_of g c =
     of_reading g.K.Sink.seen c.args.text.now c.complain-in-Err-saved_document_of.result c.args.output.now c.complain-in-Err-saved_document_of.new.output c.args.reading.now (Saved c.in-Saved.job) c.in-Saved.is
-    (complained g.K.Sink.seen c.args.text.now c.complain-in-Err-saved_document_of.result c.args.output.now c.complain-in-Err-saved_document_of.new.output (Saved c.in-Saved.job) (IsSavedComplaint c.args.text.now) (λ a told. inl told) c.in-Err-saved_document_of.error
+    (complained g.K.Sink.seen c.args.text.now c.complain-in-Err-saved_document_of.result c.args.output.now c.complain-in-Err-saved_document_of.new.output (Saved c.in-Saved.job) (IsSavedComplaint c.args.text.now) (λ a refusal. inl refusal) c.in-Err-saved_document_of.error
     (λ what at is. c.in-Err-saved_document_of.ensures.complaint what at (ap (λ x. Err x) is)) c.complain-in-Err-saved_document_of.ensures)

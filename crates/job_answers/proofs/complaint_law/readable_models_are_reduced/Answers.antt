@@ -4,12 +4,11 @@ use Rattle.command_words.specs.declared.reading.ModelJob.TheVariants.{Reduce}
 use Rattle.command_words.specs.declared.reading.Reading.TheVariants.{Model}
 use Rattle.model_core.specs.EventGraph.{EventGraph}
 use Rattle.model_core.specs.Static.Reading.{Reads}
-use Rattle.answer_delivery.specs.declared.answer.Answer.{Answer}
 use Rattle.answer_delivery.specs.declared.complaint.Complaint.{Complaint}
 use Rattle.answer_delivery.specs.declared.status.Status.TheVariants as statuses
 use Rattle.job_answers.specs.Answers.{Responds, Answers}
 use Rattle.answer_delivery.specs.Complaints.{IsComplaint}
-use Rattle.answer_delivery.specs.Statuses.{status_of_answer}
+use Rattle.job_answers.proofs.AnswerTerms.{Answer, status_of_answer}
 use Rattle.job_answers.proofs.complaint_law.readable_models_are_reduced.Goals as goal
 
 module _ (none : (text : List ℕ) (c : Complaint) (i : ℕ) (g : EventGraph) → IsComplaint text c i → Reads text g → ⊥) (text : List ℕ) (g : EventGraph) (a : Answer) (reads : Reads text g) where

@@ -11,8 +11,8 @@ returns c =
       one_place = texts.one_place;
       none_deep = λ tokens e. openings.none _ tokens e;
       few_openings = λ tokens h. openings.few _ tokens h;
-      told = λ m f. (faults.told m f).0;
-      told_back = λ m f. (faults.told m f).1;
+      fault_is_first = λ m f. (faults.told m f).0;
+      first_is_fault = λ m f. (faults.told m f).1;
       accepted = λ m. (faults.accepted m).0;
       accepted_has_no_fault = λ m. (faults.accepted m).1;
     }

@@ -15,10 +15,10 @@ returns c = λ job text g s a reads answers. of_answer job text g s a reads answ
   where
     of_document : (job : SavedJob) (text : List ℕ) (g : EventGraph) (s : SavedRun) (a : Answer) → ReadsSaved text g s → Responds (Saved job) text a → AnswersSaved job g s a
     of_document job text g s a reads (inl h) = absurd (c.saved_documents_have_one_complaint.ensures.none text h.what h.at g s h.complaint reads)
-    of_document job text g s a reads (inr h) =
-        let same = c.saved_documents_have_one_complaint.ensures.one_reading text h.model g h.run s h.reads reads in
-        let parts : ◌≡◌ {A = SavedParts} (h.model, h.run) (g, s) = λ i. (same.0 i, same.1 i) in
-        subst (λ (d : SavedParts). AnswersSaved job d.0 d.1 a) parts h.told
+    of_document job text g s a reads (inr (h, t, reads_too, answers)) =
+        let same = c.saved_documents_have_one_complaint.ensures.one_reading text h g t s reads_too reads in
+        let parts : ◌≡◌ {A = SavedParts} (h, t) (g, s) = λ i. (same.0 i, same.1 i) in
+        subst (λ (d : SavedParts). AnswersSaved job d.0 d.1 a) parts answers
 
     of_answer : (job : SavedJob) (text : List ℕ) (g : EventGraph) (s : SavedRun) (a : Answer) → ReadsSaved text g s → Answers (Saved job) text a → AnswersSaved job g s a
     of_answer job text g s a reads (inl h) = let over = h.0 in let fits = reads.fits in absurd (omega (arith, over, fits))

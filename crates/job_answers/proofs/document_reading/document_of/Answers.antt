@@ -5,7 +5,7 @@ use Rattle.model_core.specs.Code.Views.{graph_of}
 use Rattle.job_answers.specs.declared.reading_error.ReadingError.TheVariants.{At}
 use Rattle.job_answers.specs.DocumentComplaints.{IsDocumentComplaint, of_first, of_second}
 use Rattle.job_answers.proofs.PassedOn.{one_error, passed_on}
-use Rattle.job_answers.proofs.ToldErrors.{static_complaint_is}
+use Rattle.job_answers.proofs.ErrorComplaints.{static_complaint_is}
 use Rattle.job_answers.proofs.document_reading.document_of.Goals as goal
 
 pub returns-in_err-first-clause-complaint : goal.returns-in_err-first-clause-complaint

@@ -8,12 +8,12 @@ use Rattle.answer_delivery.specs.declared.complaint.Complaint.TheVariants as com
 use Rattle.job_answers.specs.declared.reading_error.ReadingError.TheVariants.{At}
 use Rattle.job_answers.specs.SavedComplaints.{IsSavedComplaint, of_model, of_snapshot}
 use Rattle.job_answers.proofs.PassedOn.{one_error, passed_on}
-use Rattle.job_answers.proofs.SavedModels.{few_parameters}
-use Rattle.job_answers.proofs.ToldErrors.{static_complaint_is, same_complaint}
+use Rattle.job_answers.proofs.SavedModels.{parameters_within_maximum}
+use Rattle.job_answers.proofs.ErrorComplaints.{static_complaint_is, same_complaint}
 use Rattle.job_answers.proofs.saved_reading.saved_in.Goals as goal
 
 pub read_snapshot_pieces-requires-clause-few : goal.read_snapshot_pieces-requires-clause-few
-read_snapshot_pieces-requires-clause-few c = few_parameters (written_model c.in_ok-raw.raw) (graph_of c.in-Ok.model) c.in-Ok.ensures.accepted
+read_snapshot_pieces-requires-clause-few c = parameters_within_maximum (written_model c.in_ok-raw.raw) (graph_of c.in-Ok.model) c.in-Ok.ensures.accepted
 
 pub returns-in_err-raw-clause-complaint : goal.returns-in_err-raw-clause-complaint
 returns-in_err-raw-clause-complaint c = λ what at e.
@@ -41,7 +41,7 @@ returns-in-Ok-read_snapshot_pieces-clause-ok c =
       spells = record { tokens = pieces_lexemes pieces; cut = pieces.are_its; behind = drop c.in_ok-raw.behind (pieces_lexemes pieces); begins = c.in_ok-raw.ensures.begins; ends = snapshot.1 };
       accepted = c.in-Ok.ensures.accepted;
       good = good.0;
-      stands = sym good.1;
+      means = sym good.1;
     }
 
 pub returns-in-Err-Bad-clause-complaint : goal.returns-in-Err-Bad-clause-complaint

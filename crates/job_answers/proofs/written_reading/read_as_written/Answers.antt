@@ -6,7 +6,7 @@ use Rattle.job_answers.specs.declared.reading_error.ReadingError.TheVariants.{At
 use Rattle.answer_delivery.specs.Complaints.{IsComplaint}
 use Rattle.job_answers.specs.Inner.Refusals.{parsing_complaint}
 use Rattle.job_answers.proofs.PassedOn.{same_error}
-use Rattle.job_answers.proofs.ToldErrors.{parsing_complaint_is}
+use Rattle.job_answers.proofs.ErrorComplaints.{parsing_complaint_is}
 use Rattle.job_answers.proofs.written_reading.read_as_written.Goals as goal
 
 pub returns-in_err-raw-clause-complaint : goal.returns-in_err-raw-clause-complaint
@@ -15,6 +15,6 @@ returns-in_err-raw-clause-complaint c = λ what at e.
     let error = c.in_err-raw.field-0.0 in
     let p = err_from_is_err_and c.from_residual.result c.from_residual.ensures.1 in
     parsing_complaint_is (IsComplaint pieces.text.now) error
-    (λ i is. let told = c.in_err-raw.ensures.unexpected i (ap (λ x. Err x) is) in (pieces_lexemes pieces, pieces.are_its, told.0, told.1))
+    (λ i is. let faults = c.in_err-raw.ensures.unexpected i (ap (λ x. Err x) is) in (pieces_lexemes pieces, pieces.are_its, faults.0, faults.1))
     (λ i is. (pieces_lexemes pieces, pieces.are_its, c.in_err-raw.ensures.too_deep i (ap (λ x. Err x) is)))
     what at (same_error c.from_residual.result p.0 (parsing_complaint error) (At what at) p.1 p.2 e)

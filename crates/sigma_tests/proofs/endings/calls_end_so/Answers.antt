@@ -27,7 +27,7 @@ returns-clause-done c = λ text g reads. (
     refl,
     record {
       bytes = canonical g;
-      answer = record { text = text; told = refl; answers = inr (reads.fits, inr (g, reads, refl)) };
+      answer = record { text = text; of_input = refl; answers = inr (reads.fits, inr (g, reads, refl)) };
       input_read = refl;
       input_steady = refl;
       output_grown = refl;
@@ -46,7 +46,7 @@ returns-clause-refused c = (
     jobs.Check,
     refl,
     record {
-      answer = record { text = codes "?"; told = refl; answers = inr (lit≤ tt, inl (record { what = complaints.BadByte; at = 0; complaint = refl; told = refl })) };
+      answer = record { text = codes "?"; of_input = refl; answers = inr (lit≤ tt, inl (record { what = complaints.BadByte; at = 0; complaint = refl; refuses = refl })) };
       input_read = refl;
       input_steady = refl;
       output_untouched = refl;
@@ -64,7 +64,7 @@ returns-clause-read_fault c = (
     jobs.Check,
     refl,
     record {
-      reads_text = tt;
+      reads_text = refl;
       input_read = (3, lit≤ tt, refl);
       input_failed = inl (omega arith);
       output_untouched = refl;
@@ -83,12 +83,14 @@ returns-clause-write_fault c = λ text g reads. (
     jobs.Print,
     refl,
     record {
-      end = ends.Done;
-      bytes = canonical g;
-      answer = record { text = text; told = refl; answers = inr (reads.fits, inr (g, reads, refl)) };
+      front = record {
+        end = ends.Done;
+        bytes = canonical g;
+        answer = record { text = text; of_input = refl; answers = inr (reads.fits, inr (g, reads, refl)) };
+        output_grown = (3, has_three g, refl);
+      };
       input_read = refl;
       input_steady = refl;
-      output_grown = (3, has_three g, refl);
       output_unsettled = inr refl;
       output_failed = inl (omega arith);
     },
@@ -118,7 +120,7 @@ returns-clause-model_fault c = λ text bytes g reads is. (
     refl,
     record {
       bytes = bytes;
-      answer = record { text = text; told = refl; answers = inr (reads.fits, inr (g, reads, sym is)) };
+      answer = record { text = text; of_input = refl; answers = inr (reads.fits, inr (g, reads, sym is)) };
       input_read = refl;
       input_steady = refl;
       output_grown = refl;
@@ -136,7 +138,7 @@ returns-clause-budget c = λ text bytes g reads is. (
     refl,
     record {
       bytes = bytes;
-      answer = record { text = text; told = refl; answers = inr (reads.fits, inr (g, reads, sym is)) };
+      answer = record { text = text; of_input = refl; answers = inr (reads.fits, inr (g, reads, sym is)) };
       input_read = refl;
       input_steady = refl;
       output_grown = refl;
@@ -154,7 +156,7 @@ returns-clause-rejected c = λ text g h applications reads differs. (
     refl,
     record {
       bytes = codes "differs\n";
-      answer = record { text = text; told = refl; answers = inr (reads.fits, inr (record { original = g; applications = applications; reduced = h; reads = reads; told = sym (ap answer_of_verdict differs) })) };
+      answer = record { text = text; of_input = refl; answers = inr (reads.fits, inr (g, applications, h, reads, sym (ap answer_of_verdict differs))) };
       input_read = refl;
       input_steady = refl;
       output_grown = refl;
@@ -172,7 +174,7 @@ returns-clause-bad_start c = λ text line g reads is. (
     jobs.Run 10 0 5 (pos 7 ∷ []) ROOM_USUAL,
     refl,
     record {
-      answer = record { text = text; told = refl; answers = inr (reads.fits, inr (g, reads, sym (ap (λ o. refused_or o (answer_of_look g 10 5 (look g 0 (pos 7 ∷ []) 10 5))) is))) };
+      answer = record { text = text; of_input = refl; answers = inr (reads.fits, inr (g, reads, sym (ap (λ o. refused_or o (answer_of_look g 10 5 (look g 0 (pos 7 ∷ []) 10 5))) is))) };
       input_read = nothing_past TEXT_MAX text reads.fits;
       input_steady = refl;
       output_untouched = refl;
@@ -188,7 +190,7 @@ returns-clause-finished c = λ text line g reads is. (
     jobs.Save 10 0 5 [],
     refl,
     record {
-      answer = record { text = text; told = refl; answers = inr (reads.fits, inr (g, reads, sym is)) };
+      answer = record { text = text; of_input = refl; answers = inr (reads.fits, inr (g, reads, sym is)) };
       input_read = nothing_past TEXT_MAX text reads.fits;
       input_steady = refl;
       output_untouched = refl;
@@ -204,7 +206,7 @@ returns-clause-too_large c = λ text line g reads is. (
     jobs.Save 10 0 5 [],
     refl,
     record {
-      answer = record { text = text; told = refl; answers = inr (reads.fits, inr (g, reads, sym is)) };
+      answer = record { text = text; of_input = refl; answers = inr (reads.fits, inr (g, reads, sym is)) };
       input_read = nothing_past TEXT_MAX text reads.fits;
       input_steady = refl;
       output_untouched = refl;

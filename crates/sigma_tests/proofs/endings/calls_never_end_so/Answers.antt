@@ -5,7 +5,6 @@ use Rattle.std.proofs.lemmas.Option.{same_Some}
 use Rattle.sig_base.specs.declared.limits.TheConstants.{TEXT_MAX}
 use Rattle.sig_base.specs.Faults.{HasRisen}
 use Rattle.sig_base.specs.Sink.{Outlet}
-use Rattle.sig_base.specs.Source.{Inlet}
 use Rattle.command_words.specs.declared.job.Job.{Job}
 use Rattle.command_words.specs.declared.job.Job.TheVariants as jobs
 use Rattle.command_words.specs.Readings.{reading_of}
@@ -13,17 +12,9 @@ use Rattle.answer_delivery.specs.declared.status.End.TheVariants as ends
 use Rattle.answer_delivery.specs.declared.status.Refusal.TheVariants as refusals
 use Rattle.sigma_top.specs.StatusTable.{WritesAnswer, Refuses, FailsToRead, FailsToWrite, LacksMemory, ForJob}
 use Rattle.sigma_tests.specs.Devices.{input_of, output_of}
+use Rattle.answer_laws.proofs.SteadyDevices.{no_rise}
+use Rattle.sigma_tests.proofs.SeenDevices.{inlet, outlet, never_true, some_bytes}
 use Rattle.sigma_tests.proofs.endings.calls_never_end_so.Goals as goal
-
--- what is seen of a device is the device
-abbrev inlet : Inlet → Inlet
-inlet i = i
-
-abbrev outlet : Outlet → Outlet
-outlet o = o
-
-unsettled : false ≡ true → ⊥
-unsettled e = cc
 
 settled : true ≡ false → ⊥
 settled e = cc
@@ -32,18 +23,11 @@ settled e = cc
 apart : (m n : ℕ) (text : List ℕ) → m < n → n ≤ length text → ◌≡◌ {A = Option (List ℕ)} (Some (drop n text)) (Some (drop m text)) → ⊥
 apart m n text less long same = omega (arith, length-drop m text, length-drop n text, ap length (same_Some _ _ same))
 
-some_bytes : (byte : ℕ) (rest : List ℕ) → ◌≡◌ {A = Option (List ℕ)} (Some (byte ∷ rest)) (Some []) → ⊥
-some_bytes byte rest e = cc
-
 no_bytes : (byte : ℕ) (rest : List ℕ) → ◌≡◌ {A = Option (List ℕ)} (Some []) (Some (byte ∷ rest)) → ⊥
 no_bytes byte rest e = cc
 
-no_rise : HasRisen 0 0 → ⊥
-no_rise (inl h) = omega arith
-no_rise (inr (p, q)) = omega arith
-
 pub returns-clause-done_but_unfinished : goal.returns-clause-done_but_unfinished
-returns-clause-done_but_unfinished c = λ words i j o e f bytes faults h. unsettled h.0.2.output_settled
+returns-clause-done_but_unfinished c = λ words i j o e f bytes faults h. never_true h.0.2.output_settled
 
 pub returns-clause-done_but_unread : goal.returns-clause-done_but_unread
 returns-clause-done_but_unread c = λ text rest byte o p e f h.

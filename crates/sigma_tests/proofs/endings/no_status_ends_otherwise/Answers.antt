@@ -1,7 +1,6 @@
-use Rattle.std.proofs.Common.{◌≡◌, ◌⊎◌, inl, inr, ℕ, false, true, List, [], ◌∷◌, ◌++◌, sym, ap, subst, arith}
+use Rattle.std.proofs.Common.{◌≡◌, ◌⊎◌, inl, inr, ℕ, true, List, [], ◌∷◌, ◌++◌, sym, ap, subst, arith}
 use Rattle.std.specs.Prelude.{Option, Some}
 use Rattle.std.proofs.lemmas.Option.{same_Some}
-use Rattle.sig_base.specs.Faults.{HasRisen}
 use Rattle.sig_base.specs.Sink.{Outlet}
 use Rattle.sig_base.specs.Source.{Inlet}
 use Rattle.command_words.specs.declared.job.Job.{Job}
@@ -9,27 +8,12 @@ use Rattle.command_words.specs.declared.job.Job.TheVariants as jobs
 use Rattle.command_words.specs.Readings.{reading_of}
 use Rattle.sigma_top.specs.StatusTable.{FailsToRead, LacksMemory, ForJob}
 use Rattle.sigma_tests.specs.Devices.{output_of}
+use Rattle.answer_laws.proofs.SteadyDevices.{no_rise}
+use Rattle.sigma_tests.proofs.SeenDevices.{inlet, outlet, never_true, some_bytes}
 use Rattle.sigma_tests.proofs.endings.no_status_ends_otherwise.Goals as goal
-
--- what is seen of a device is the device
-abbrev inlet : Inlet → Inlet
-inlet i = i
-
-abbrev outlet : Outlet → Outlet
-outlet o = o
-
-unsettled : false ≡ true → ⊥
-unsettled e = cc
 
 one_is_none : ◌≡◌ {A = ℕ} 1 0 → ⊥
 one_is_none e = omega (arith, e)
-
-some_bytes : (byte : ℕ) (rest : List ℕ) → ◌≡◌ {A = Option (List ℕ)} (Some (byte ∷ rest)) (Some []) → ⊥
-some_bytes byte rest e = cc
-
-no_rise : HasRisen 0 0 → ⊥
-no_rise (inl h) = omega arith
-no_rise (inr (p, q)) = omega arith
 
 pub returns-clause-done_but_read_failed : goal.returns-clause-done_but_read_failed
 returns-clause-done_but_read_failed c = λ words text rest o p e f h. one_is_none h.0.2.input_steady
@@ -44,19 +28,19 @@ returns-clause-done_but_taken_back c = λ words i j byte rest e f h. taken_back 
     taken_back byte rest bytes e = cc
 
 pub returns-clause-model_fault_but_unfinished : goal.returns-clause-model_fault_but_unfinished
-returns-clause-model_fault_but_unfinished c = λ words i j o e f bytes h. unsettled h.0.2.output_settled
+returns-clause-model_fault_but_unfinished c = λ words i j o e f bytes h. never_true h.0.2.output_settled
 
 pub returns-clause-model_fault_but_told : goal.returns-clause-model_fault_but_told
 returns-clause-model_fault_but_told c = λ words i j o p byte rest h. some_bytes byte rest (ap (λ (e : Outlet). e.written) h.1)
 
 pub returns-clause-budget_but_unfinished : goal.returns-clause-budget_but_unfinished
-returns-clause-budget_but_unfinished c = λ words i j o e f bytes h. unsettled h.0.2.output_settled
+returns-clause-budget_but_unfinished c = λ words i j o e f bytes h. never_true h.0.2.output_settled
 
 pub returns-clause-budget_but_told : goal.returns-clause-budget_but_told
 returns-clause-budget_but_told c = λ words i j o p byte rest h. some_bytes byte rest (ap (λ (e : Outlet). e.written) h.1)
 
 pub returns-clause-rejected_but_unfinished : goal.returns-clause-rejected_but_unfinished
-returns-clause-rejected_but_unfinished c = λ words i j o e f bytes h. unsettled h.0.2.output_settled
+returns-clause-rejected_but_unfinished c = λ words i j o e f bytes h. never_true h.0.2.output_settled
 
 pub returns-clause-rejected_but_told : goal.returns-clause-rejected_but_told
 returns-clause-rejected_but_told c = λ words i j o p byte rest h. some_bytes byte rest (ap (λ (e : Outlet). e.written) h.1)
@@ -81,7 +65,7 @@ returns-clause-read_fault_but_written c = λ words i j byte rest e f h. some_byt
 
 pub returns-clause-read_fault_of_a_trial : goal.returns-clause-read_fault_of_a_trial
 returns-clause-read_fault_of_a_trial c = λ i j o p e f h.
-    (subst (λ (job : Job). FailsToRead inlet outlet (reading_of job) i j o p) (sym (same_Some (jobs.Trial 1 2 3 4) _ h.0.1)) h.0.2).reads_text
+    never_true (subst (λ (job : Job). FailsToRead inlet outlet (reading_of job) i j o p) (sym (same_Some (jobs.Trial 1 2 3 4) _ h.0.1)) h.0.2).reads_text
 
 pub returns-clause-write_fault_but_none_failed : goal.returns-clause-write_fault_but_none_failed
 returns-clause-write_fault_but_none_failed c = λ words i j bytes more e f h. no_rise h.0.2.output_failed

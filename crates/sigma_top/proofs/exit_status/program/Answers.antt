@@ -1,12 +1,15 @@
--- The exit status 0 is that of one status alone.
-use Rattle.std.proofs.Common.{◌≡◌, ℕ, List, Result, Ok, Err, refl, sym, ap, ◌∙◌}
+-- The call of `sigma` ends with a status, and the exit status 0 is that of one status alone.
+use Rattle.std.proofs.Common.{◌≡◌, ℕ, List, Result, Ok, Err, map, vec_items, refl, sym, ap, ◌∙◌, subst}
 use Rattle.std.specs.Prelude.{IfOk}
+use Rattle.std.specs.Process.{exit_status}
+use Rattle.std.specs.String.{string_bytes}
 use Rattle.sig_base.specs.Sink.{Outlet}
 use Rattle.sig_base.specs.Source.{Inlet}
 use Rattle.answer_delivery.specs.declared.status.Status.{Status}
 use Rattle.answer_delivery.specs.declared.status.Status.TheVariants as statuses
 use Rattle.answer_delivery.specs.Statuses.{exit_status_of}
 use Rattle.sigma_top.specs.Promises.{KeepsPromises}
+use Rattle.sigma_top.specs.StatusTable.{Ends}
 use Rattle.sigma_top.proofs.exit_status.program.Goals as goal
 
 is_done : (status : Status) → exit_status_of status ≡ 0 → status ≡ statuses.Done
@@ -24,9 +27,9 @@ is_done statuses.Finished e = cc
 is_done statuses.TooLarge e = cc
 
 -- what is promised at a status is promised at its exit status
-at_exit : (exit number : ℕ) (status : Status) (words : List (List ℕ)) (input : Inlet) (before after : Outlet) → exit ≡ number → number ≡ exit_status_of status
+at_exit : (exit : ℕ) (status : Status) (words : List (List ℕ)) (input : Inlet) (before after : Outlet) → exit ≡ exit_status_of status
     → KeepsPromises (λ s. status ≡ s) words input before after → KeepsPromises (λ s. exit ≡ exit_status_of s) words input before after
-at_exit exit number status words input before after is known kept = record {
+at_exit exit status words input before after is kept = record {
   printed = λ asked zero. kept.printed asked (done zero);
   reduced = λ asked zero. kept.reduced asked (done zero);
   fused = λ asked zero. kept.fused asked (done zero);
@@ -37,15 +40,29 @@ at_exit exit number status words input before after is known kept = record {
 }
   where
     done : exit ≡ 0 → status ≡ statuses.Done
-    done zero = is_done status (sym known ∙ sym is ∙ zero)
+    done zero = is_done status (sym is ∙ zero)
 
     number_is : {s : Status} → status ≡ s → exit ≡ exit_status_of s
-    number_is e = is ∙ known ∙ ap exit_status_of e
+    number_is e = is ∙ ap exit_status_of e
 
-if_ok : {A E : Type 0} (words : Result A E) (P Q : A → Type 0) → ((w : A) → P w → Q w) → IfOk words P → IfOk words Q
-if_ok (Ok w) P Q each h = each w h
-if_ok (Err e) P Q each h = tt
+-- what holds of the words that were lent holds of the words
+of_words : {A B E : Type 0} (words : Result A E) (given : A) (items : A → B) (shown : B) (P : B → Type 0) → words ≡ Ok given → shown ≡ items given → P shown → IfOk words (λ w. P (items w))
+of_words (Ok w) given items shown P is lent h = let same : w ≡ given = cc in subst (λ v. P (items v)) (sym same) (subst P lent h)
+of_words (Err e) given items shown P is lent h = tt
 
-pub returns-clause-promises : goal.returns-clause-promises
-returns-clause-promises g c =
-    if_ok c.args.words _ _ (λ w. at_exit _ _ c.program_status-status.result _ _ _ _ c.from.ensures c.number.ensures) c.program_status-status.ensures.promises
+pub returns-in-Ok-clause-ended : goal.returns-in-Ok-clause-ended
+returns-in-Ok-clause-ended g c =
+    of_words c.args.words c.in-Ok.words vec_items c.deref.result.now
+    (λ words. (status : Status) × (exit_status c.from.result ≡ exit_status_of status)
+    × Ends g.S.Source.seen g.K.Sink.seen g.E.Sink.seen (map string_bytes words) c.args.input.now c.sigma.new.input
+    c.args.output.now c.sigma.new.output c.args.errors.now c.sigma.new.errors status)
+    c.in-Ok.is c.deref.ensures.value (c.sigma.result, c.from.ensures ∙ c.number.ensures, c.sigma.ensures.ends)
+
+pub returns-in-Ok-clause-promises : goal.returns-in-Ok-clause-promises
+returns-in-Ok-clause-promises g c =
+    of_words c.args.words c.in-Ok.words vec_items c.deref.result.now
+    (λ words. KeepsPromises (λ status. exit_status c.from.result ≡ exit_status_of status) (map string_bytes words) (g.S.Source.seen c.args.input.now)
+    (g.K.Sink.seen c.args.output.now) (g.K.Sink.seen c.sigma.new.output))
+    c.in-Ok.is c.deref.ensures.value
+    (at_exit (exit_status c.from.result) c.sigma.result (map string_bytes c.deref.result.now) (g.S.Source.seen c.args.input.now)
+    (g.K.Sink.seen c.args.output.now) (g.K.Sink.seen c.sigma.new.output) (c.from.ensures ∙ c.number.ensures) c.sigma.ensures.promises)

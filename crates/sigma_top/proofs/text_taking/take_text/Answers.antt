@@ -1,5 +1,5 @@
--- Each exit has what is known of the bytes that were taken.
-use Rattle.std.proofs.Common.{◌≡◌, ◌∙◌, Option, ℕ, Ok, Err, ap, sym, subst}
+-- Each exit says which bytes were taken.
+use Rattle.std.proofs.Common.{◌≡◌, ◌∙◌, Option, ℕ, Ok, Err, refl, ap, sym, subst}
 use Rattle.sig_base.specs.declared.take_error.TakeError.TheVariants as errors
 use Rattle.sigma_top.specs.declared.text_taking.TakenText.TheVariants as taken
 use Rattle.answer_delivery.specs.declared.status.Failure.TheVariants as failures
@@ -45,7 +45,7 @@ returns-in-Err-ReadFault g c =
     let failed = c.in-Err-ReadFault.is ∙ ap (λ e. Err e) c.in-Err-ReadFault.field-0-is in
     let part = c.take_all.ensures.taken in
     subst (λ (limit : Option ℕ). TakesText g.S.Source.seen limit (Err failures.ReadFault) i j) (sym c.in-Some.is)
-    (tt, taken_in_part left now c.in-Some.limit part.0 part.1 part.2, c.take_all.ensures.read_fault failed)
+    (refl, taken_in_part left now c.in-Some.limit part.0 part.1 part.2, c.take_all.ensures.read_fault failed)
 
 pub returns-in-Err-NoMemory : goal.returns-in-Err-NoMemory
 returns-in-Err-NoMemory g c =

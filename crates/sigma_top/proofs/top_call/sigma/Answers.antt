@@ -1,6 +1,6 @@
 use Rattle.std.proofs.Common.{map}
 use Rattle.std.specs.String.{string_bytes}
-use Rattle.sigma_top.proofs.TopCall.{within_room, resumed_within_room, promises_kept, complete, reduces_what_reads}
+use Rattle.sigma_top.proofs.TopCall.{writes_nothing, promises_kept, complete, reduces_what_reads}
 use Rattle.sigma_top.proofs.top_call.sigma.Goals as goal
 
 pub returns-clause-complete : goal.returns-clause-complete
@@ -13,15 +13,10 @@ returns-clause-always_reduced g c = λ asked read wrote.
     reduces_what_reads g.S.Source.seen g.K.Sink.seen g.E.Sink.seen (map string_bytes c.args.words.now) c.args.input.now c.answer_call.new.input c.args.output.now c.answer_call.new.output c.args.errors.now c.answer_call.new.errors
     c.readable_models_are_reduced.ensures asked read wrote c.answer_call.result c.answer_call.ensures
 
-pub returns-clause-within_room : goal.returns-clause-within_room
-returns-clause-within_room g c = λ until seed events starts room asked is_short.
-    within_room g.S.Source.seen g.K.Sink.seen g.E.Sink.seen (map string_bytes c.args.words.now) c.args.input.now c.answer_call.new.input c.args.output.now c.answer_call.new.output c.args.errors.now c.answer_call.new.errors
-    until seed events starts room asked c.answer_call.result c.answer_call.ensures is_short
-
-pub returns-clause-resumed_within_room : goal.returns-clause-resumed_within_room
-returns-clause-resumed_within_room g c = λ until events room asked is_short.
-    resumed_within_room g.S.Source.seen g.K.Sink.seen g.E.Sink.seen (map string_bytes c.args.words.now) c.args.input.now c.answer_call.new.input c.args.output.now c.answer_call.new.output c.args.errors.now c.answer_call.new.errors
-    until events room asked c.answer_call.result c.answer_call.ensures is_short
+pub returns-clause-writes_nothing : goal.returns-clause-writes_nothing
+returns-clause-writes_nothing g c = λ job asked is_short.
+    writes_nothing g.S.Source.seen g.K.Sink.seen g.E.Sink.seen (map string_bytes c.args.words.now) c.args.input.now c.answer_call.new.input c.args.output.now c.answer_call.new.output c.args.errors.now c.answer_call.new.errors
+    job asked c.answer_call.result c.answer_call.ensures is_short
 
 pub returns-clause-promises : goal.returns-clause-promises
 returns-clause-promises g c =

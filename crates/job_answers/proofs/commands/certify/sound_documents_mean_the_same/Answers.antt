@@ -19,17 +19,17 @@ pub returns : goal.returns
 returns c = λ text bytes answers. of_answer text bytes answers
   where
     of_document : (text bytes : List ℕ) → Responds (Document Certify) text (Given ends.Done bytes) → Certifies text
-    of_document text bytes (inl h) = absurd (given_is_no_refusal h.told)
-    of_document text bytes (inr h) =
-        let sound = is_sound (verdict h.original h.applications h.reduced) bytes h.told in
-        let valid = c.documents_have_valid_models.ensures.original text h.original h.applications h.reduced h.reads in
+    of_document text bytes (inl h) = absurd (given_is_no_refusal h.refuses)
+    of_document text bytes (inr (g, applications, h, reads, answers)) =
+        let sound = is_sound (verdict g applications h) bytes answers in
+        let valid = c.documents_have_valid_models.ensures.original text g applications h reads in
         record {
-          original = h.original;
-          applications = h.applications;
-          reduced = h.reduced;
-          reads = h.reads;
-          chain = (c.verdicts_tell_chains.ensures.sound h.original h.applications h.reduced).0 sound;
-          same = c.verdicts_tell_chains.ensures.same h.original h.applications h.reduced valid sound;
+          original = g;
+          applications = applications;
+          reduced = h;
+          reads = reads;
+          chain = (c.verdicts_tell_chains.ensures.sound g applications h).0 sound;
+          same = c.verdicts_tell_chains.ensures.same g applications h valid sound;
         }
 
     of_answer : (text bytes : List ℕ) → Answers (Document Certify) text (Given ends.Done bytes) → Certifies text

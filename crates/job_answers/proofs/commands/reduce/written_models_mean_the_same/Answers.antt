@@ -4,10 +4,9 @@ use Rattle.command_words.specs.declared.reading.ModelJob.TheVariants.{Reduce}
 use Rattle.command_words.specs.declared.reading.Reading.TheVariants.{Model}
 use Rattle.model_core.specs.EventGraph.{EventGraph}
 use Rattle.model_core.specs.Static.Reading.{Reads, IsValid}
-use Rattle.answer_delivery.specs.declared.answer.Answer.TheVariants.{Given}
-use Rattle.answer_delivery.specs.declared.status.End.{End}
 use Rattle.job_answers.specs.Answers.{Responds, Answers}
 use Rattle.job_answers.specs.ReduceAnswer.{Reduces, KeepsMeaning}
+use Rattle.job_answers.proofs.AnswerTerms.{Given, End}
 use Rattle.job_answers.proofs.GivenAnswers.{given_is_no_refusal, given_bytes}
 use Rattle.job_answers.proofs.commands.reduce.written_models_mean_the_same.Goals as goal
 
@@ -26,7 +25,7 @@ returns c = λ text out end answers. of_answer text out end answers
         }
 
     of_model : (text out : List ℕ) (end : End) → Responds (Model Reduce) text (Given end out) → KeepsMeaning text out
-    of_model text out end (inl h) = absurd (given_is_no_refusal h.told)
+    of_model text out end (inl h) = absurd (given_is_no_refusal h.refuses)
     of_model text out end (inr h) = subst (λ (b : List ℕ). KeepsMeaning text b) (sym (given_bytes h.2.2)) (reduced text h.2.0 h.0 h.1 h.2.1)
 
     of_answer : (text out : List ℕ) (end : End) → Answers (Model Reduce) text (Given end out) → KeepsMeaning text out

@@ -3,11 +3,9 @@ use Rattle.std.specs.Prelude.{IsTrue}
 use Rattle.model_core.specs.Run.History.{allowed}
 use Rattle.model_core.specs.Code.Views.{graph_of}
 use Rattle.run_control.specs.Beginning.{RefusesStart}
-use Rattle.answer_delivery.specs.declared.delivering.DeliveryOutcome.{DeliveryOutcome}
-use Rattle.answer_delivery.specs.declared.status.Failure.{Failure}
-use Rattle.answer_delivery.specs.AnswerForms.{done}
 use Rattle.job_answers.specs.ReplicateAnswer.{report}
 use Rattle.job_answers.specs.Inner.WritingSteps.{WritesPieces}
+use Rattle.job_answers.proofs.AnswerTerms.{Failure, DeliveryOutcome, done}
 use Rattle.job_answers.proofs.PiecesWritten.{passed_failure}
 use Rattle.job_answers.proofs.commands.ReplicateLaws.{DeliversReport, report_broken, report_closed}
 use Rattle.job_answers.proofs.StartLaws.{start_refused}
@@ -24,7 +22,7 @@ returns-in-Err g c =
     let graph = graph_of c.args.model.now in
     let options = c.args.options.now in
     start_refused g.K.Sink.seen graph options.starts (done (report graph options)) (Unit {0}) c.in-Err.error c.refuse_start.result c.args.output.now
-    (λ line told. subst (λ (starts : List ℤ). RefusesStart graph starts c.in-Err.error) c.as_slice.ensures c.in-Err.ensures.err) c.refuse_start.ensures
+    (λ line is. subst (λ (starts : List ℤ). RefusesStart graph starts c.in-Err.error) c.as_slice.ensures c.in-Err.ensures.err) c.refuse_start.ensures
 
 pub returns-in_err-write_report-in-Ok : goal.returns-in_err-write_report-in-Ok
 returns-in_err-write_report-in-Ok g c =
@@ -34,8 +32,8 @@ returns-in_err-write_report-in-Ok g c =
     let taken = subst (λ (starts : List ℤ). IsTrue (allowed graph starts)) c.as_slice.ensures c.in-Ok.ensures.ok in
     let o = c.args.output.now in
     let p = c.write_report.new.output in
-    let (f, told, broken) = passed_failure (report graph options) c.write_report.result c.from_residual.result c.in_err-write_report-in-Ok.field-0.0 (seen o) (seen p) c.in_err-write_report-in-Ok.was c.from_residual.ensures.1 c.write_report.ensures in
-    subst (λ (r : Result DeliveryOutcome Failure). DeliversReport seen graph options taken r o p) (sym told) (report_broken seen graph options taken f o p broken)
+    let (f, passed, broken) = passed_failure (report graph options) c.write_report.result c.from_residual.result c.in_err-write_report-in-Ok.field-0.0 (seen o) (seen p) c.in_err-write_report-in-Ok.was c.from_residual.ensures.1 c.write_report.ensures in
+    subst (λ (r : Result DeliveryOutcome Failure). DeliversReport seen graph options taken r o p) (sym passed) (report_broken seen graph options taken f o p broken)
 
 pub returns-in_ok-write_report-in-Ok : goal.returns-in_ok-write_report-in-Ok
 returns-in_ok-write_report-in-Ok g c =

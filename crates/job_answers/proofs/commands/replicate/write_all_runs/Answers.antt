@@ -1,12 +1,11 @@
 use Rattle.std.proofs.Common.{ℕ, ◌+◌, List, Result, sym, ap, ◌∙◌, subst, arith}
 use Rattle.model_core.specs.Code.Views.{graph_of}
 use Rattle.tally_report.specs.ReportText.{run_rows, total_rows}
-use Rattle.answer_delivery.specs.declared.status.Failure.{Failure}
 use Rattle.job_answers.specs.Inner.ReportSteps.{rest_of_report}
-use Rattle.answer_delivery.specs.DeliverySteps.{Written}
 use Rattle.job_answers.specs.Inner.WritingSteps.{WritesPieces}
+use Rattle.job_answers.proofs.AnswerTerms.{Failure, Written}
 use Rattle.job_answers.proofs.PiecesWritten.{at_last, whole_piece, passed_failure, passed_memory, stopped}
-use Rattle.job_answers.proofs.commands.ReplicateLaws.{Left, run_broken, run_told, totals_last}
+use Rattle.job_answers.proofs.commands.ReplicateLaws.{Left, run_broken, run_written, totals_last}
 use Rattle.job_answers.proofs.commands.replicate.write_all_runs.Goals as goal
 
 -- memory lacks for a tally
@@ -22,10 +21,10 @@ returns-in_err-write_run_rows g c =
     let graph = graph_of c.args.model.now in
     let options = c.args.options.now in
     let all = rest_of_report graph options c.args.totals 1 options.runs in
-    let (f, told, broken) = passed_failure (run_rows graph c.loop-number.number c.seed_of_run-seed.result c.in-Ok.tally) c.write_run_rows.result c.from_residual.result c.in_err-write_run_rows.field-0.0 (seen c.loop-number.output) (seen c.write_run_rows.new.output) c.in_err-write_run_rows.was c.from_residual.ensures.1 c.write_run_rows.ensures.written in
-    subst (λ (r : Result Unit Failure). WritesPieces all r (seen c.args.output.now) (seen c.write_run_rows.new.output)) (sym told)
+    let (f, passed, broken) = passed_failure (run_rows graph c.loop-number.number c.seed_of_run-seed.result c.in-Ok.tally) c.write_run_rows.result c.from_residual.result c.in_err-write_run_rows.field-0.0 (seen c.loop-number.output) (seen c.write_run_rows.new.output) c.in_err-write_run_rows.was c.from_residual.ensures.1 c.write_run_rows.ensures.written in
+    subst (λ (r : Result Unit Failure). WritesPieces all r (seen c.args.output.now) (seen c.write_run_rows.new.output)) (sym passed)
     (run_broken graph options c.loop-number.totals c.loop-number.totals c.loop-number.number c.seed_of_run-seed.result c.in-Ok.tally all (seen c.args.output.now) (seen c.loop-number.output) (seen c.write_run_rows.new.output)
-    c.loop-number-test.true c.seed_of_run-seed.ensures c.in-Ok.ensures.told c.loop-number.invariant.0 f broken)
+    c.loop-number-test.true c.seed_of_run-seed.ensures c.in-Ok.ensures.of_run c.loop-number.invariant.0 f broken)
 
 -- they are
 pub loop-number-preserved : goal.loop-number-preserved
@@ -36,8 +35,8 @@ loop-number-preserved g c =
     let all = rest_of_report graph options c.args.totals 1 options.runs in
     let rows = run_rows graph c.loop-number.number c.seed_of_run-seed.result c.in-Ok.tally in
     let added = c.in_ok-write_run_rows.ensures.added in (
-      run_told graph options c.loop-number.totals c.write_run_rows.new.totals c.loop-number.number c.seed_of_run-seed.result c.in-Ok.tally all (seen c.args.output.now) (seen c.loop-number.output) (seen c.write_run_rows.new.output)
-          c.loop-number-test.true c.seed_of_run-seed.ensures c.in-Ok.ensures.told c.loop-number.invariant.0 added
+      run_written graph options c.loop-number.totals c.write_run_rows.new.totals c.loop-number.number c.seed_of_run-seed.result c.in-Ok.tally all (seen c.args.output.now) (seen c.loop-number.output) (seen c.write_run_rows.new.output)
+          c.loop-number-test.true c.seed_of_run-seed.ensures c.in-Ok.ensures.of_run c.loop-number.invariant.0 added
           (subst (λ (r : Result Unit Failure). WritesPieces rows r (seen c.loop-number.output) (seen c.write_run_rows.new.output)) c.in_ok-write_run_rows.was c.write_run_rows.ensures.written),
       ap (λ t. t.runs + 1) added ∙ omega (arith, c.loop-number.invariant.1),
     )

@@ -5,11 +5,10 @@ use Rattle.model_core.specs.Code.Views.{graph_of}
 use Rattle.command_words.specs.declared.replicate_options.ReplicateOptions.{ReplicateOptions}
 use Rattle.tally_report.specs.ReportText.{header_row}
 use Rattle.tally_report.specs.Totalling.{RunTotals, no_totals}
-use Rattle.answer_delivery.specs.declared.status.Failure.{Failure}
 use Rattle.job_answers.specs.ReplicateAnswer.{report}
 use Rattle.job_answers.specs.Inner.ReportSteps.{rest_of_report, IsWrittenUpTo}
-use Rattle.answer_delivery.specs.DeliverySteps.{Written}
 use Rattle.job_answers.specs.Inner.WritingSteps.{WritesPieces}
+use Rattle.job_answers.proofs.AnswerTerms.{Failure, Written}
 use Rattle.job_answers.proofs.PiecesWritten.{at_last, whole_piece, next_piece_fails, further, passed_failure}
 use Rattle.job_answers.proofs.commands.ReplicateLaws.{Left, header_first}
 use Rattle.job_answers.proofs.commands.replicate.write_report.Goals as goal
@@ -22,9 +21,9 @@ returns-in_err-write_all g c =
     let options = c.args.options.now in
     let o = seen c.args.output.now in
     let p = seen c.write_all.new.output in
-    let (f, told, broken) = passed_failure header_row c.write_all.result c.from_residual-in_err-write_all.result c.in_err-write_all.field-0.0 o p c.in_err-write_all.was c.from_residual-in_err-write_all.ensures.1
+    let (f, passed, broken) = passed_failure header_row c.write_all.result c.from_residual-in_err-write_all.result c.in_err-write_all.field-0.0 o p c.in_err-write_all.was c.from_residual-in_err-write_all.ensures.1
     (whole_piece header_row c.write_all.result o p (subst (λ (b : List ℕ). Written b c.write_all.result o p) (c.as_slice-2.ensures ∙ c.in_ok-header_csv.ensures) c.write_all.ensures)) in
-    subst (λ (r : Result Unit Failure). WritesPieces (report graph options) r o p) (sym told)
+    subst (λ (r : Result Unit Failure). WritesPieces (report graph options) r o p) (sym passed)
     (next_piece_fails header_row (Left graph options (no_totals graph) 1) (report graph options) f o o p (header_first graph options o) broken)
 
 -- the header is, and the runs are left

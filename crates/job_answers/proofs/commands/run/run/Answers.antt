@@ -7,7 +7,7 @@ use Rattle.job_answers.proofs.commands.run.run.Goals as goal
 pub returns-in-Err : goal.returns-in-Err
 returns-in-Err g c =
     let options = c.args.options.now in
-    start_refused g.K.Sink.seen (graph_of c.args.model.now) options.starts _ _ c.in-Err.error c.refuse_start.result c.args.output.now (λ line told. c.in-Err.ensures.err) c.refuse_start.ensures
+    start_refused g.K.Sink.seen (graph_of c.args.model.now) options.starts _ _ c.in-Err.error c.refuse_start.result c.args.output.now (λ line is. c.in-Err.ensures.err) c.refuse_start.ensures
 
 -- the history, from the run's beginning on
 pub returns-in-Ok-begin : goal.returns-in-Ok-begin

@@ -12,7 +12,7 @@ pub returns-in-Err : goal.returns-in-Err
 returns-in-Err g c =
     let graph = graph_of c.args.model.now in
     let options = c.args.options.now in
-    start_refused g.K.Sink.seen graph options.starts (saving_answer graph options) ⊥ c.in-Err.error c.refuse_start.result c.args.output.now (λ line told. c.in-Err.ensures.err) c.refuse_start.ensures
+    start_refused g.K.Sink.seen graph options.starts (saving_answer graph options) ⊥ c.in-Err.error c.refuse_start.result c.args.output.now (λ line is. c.in-Err.ensures.err) c.refuse_start.ensures
 
 pub returns : goal.returns
 returns g c =

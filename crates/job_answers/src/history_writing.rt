@@ -1,6 +1,7 @@
 //! The history of a run from any moment on, written as it happens: for `run` and `resume`.
 
-ghost use Rattle.std.specs.Prelude.{◌≡◌, ◌+◌, ◌≤◌, ◌^◌, ℕ, length, None};
+ghost use Rattle.std.specs.Prelude.{◌≡◌, ◌+◌, ◌≤◌, ℕ, length, None};
+ghost use Rattle.sig_base.specs.declared.limits.TheConstants.{STOP_MAX, EVENTS_MAX};
 ghost use Rattle.model_core.specs.Code.Views.{graph_of};
 ghost use Rattle.watch_trace.specs.Tracing.{moment_of};
 ghost use Rattle.job_answers.specs.Inner.RunSteps.{ending, DeliversHistory};
@@ -34,8 +35,8 @@ pub(crate) fn write_history_from<'m, P: Pending + Drop, K: Sink>(
     events: u64,
     output: &mut K,
 ) -> Result<DeliveryOutcome, Failure>
-    requires soon { until ≤ 2 ^ 48 }
-    requires budget { run.turns + events ≤ 2 ^ 40 }
+    requires soon { until ≤ STOP_MAX }
+    requires budget { run.turns + events ≤ EVENTS_MAX }
     requires one_model { tracer.model ≡ run.model }
     requires goes_on { run.faulted ≡ None }
     ensures { (room : ℕ) → room ≤ run.entry.spare + length run.entry.now.pending

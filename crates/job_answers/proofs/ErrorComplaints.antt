@@ -19,8 +19,8 @@ module _ (IsSo : Complaint → ℕ → Type 0) where
 
   pub of_uncut : (error : LexError) → ((i : ℕ) → error ≡ LexError.BadByte i → IsSo complaints.BadByte i)
       → (what : Complaint) (at : ℕ) → lexing_complaint error ≡ At what at → IsSo what at
-  of_uncut (LexError.BadByte i) told what at e = same_complaint complaints.BadByte what i at e (told i refl)
-  of_uncut LexError.NoMemory told what at e = absurd cc
+  of_uncut (LexError.BadByte i) complains what at e = same_complaint complaints.BadByte what i at e (complains i refl)
+  of_uncut LexError.NoMemory complains what at e = absurd cc
 
   pub parsing_complaint_is : (error : ParseError) → ((i : ℕ) → error ≡ ParseError.Unexpected i → IsSo complaints.Unexpected i)
       → ((i : ℕ) → error ≡ ParseError.TooDeep i → IsSo complaints.TooDeep i)
@@ -31,5 +31,5 @@ module _ (IsSo : Complaint → ℕ → Type 0) where
 
   pub static_complaint_is : (error : StaticError) → ((kind : StaticKind) (i : ℕ) → error ≡ static.Fault kind i → IsSo (complaints.Static kind) i)
       → (what : Complaint) (at : ℕ) → static_complaint error ≡ At what at → IsSo what at
-  static_complaint_is (static.Fault kind i) told what at e = same_complaint (complaints.Static kind) what i at e (told kind i refl)
-  static_complaint_is static.NoMemory told what at e = absurd cc
+  static_complaint_is (static.Fault kind i) complains what at e = same_complaint (complaints.Static kind) what i at e (complains kind i refl)
+  static_complaint_is static.NoMemory complains what at e = absurd cc
