@@ -8,6 +8,7 @@ mod arguments;
 mod descriptions;
 mod jobs;
 mod made_models;
+mod part_complaints;
 mod readings;
 mod reports;
 mod saved_answers;
@@ -28,6 +29,9 @@ pub use jobs::{
     saved_runs_are_asked_for, trials_are_asked_for,
 };
 pub use made_models::{numbers_make_models, vertices_have_forms, words_make_vertices};
+pub use part_complaints::{
+    documents_are_answered, jobs_may_stop_short, last_parts_are_complained_of,
+};
 pub use readings::{jobs_read_so, options_keep_limits, readings_have_limits};
 pub use reports::{a_shelf_is_reported, items_have_names, items_have_rows};
 pub use saved_answers::{
