@@ -1,11 +1,9 @@
-//! Tests of reading and checking model texts, of merging what they spell, and of checking chains between models, through
-//! the public calls of the crates that do it.
+//! Tests of reading and checking model texts, of merging what they spell, and of checking chains
+//! between models, through the public calls of the crates that do it.
 #![tactic(auto)]
 
 #[cfg(test)]
 mod chains;
-#[cfg(test)]
-mod described_models;
 #[cfg(test)]
 mod merged_models;
 #[cfg(test)]

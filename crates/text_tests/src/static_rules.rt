@@ -1,6 +1,6 @@
-//! Which static fault of a text is reported, and where.
+//! Texts that keep all static rules: they are read in one pass, as the models that they spell.
 
-use model_core::{Model, RawModel, StaticKind, same_model};
+use model_core::{Model, RawModel, same_model};
 use model_lex::{ParseError, pieces, tokens};
 use model_read::parse;
 use one_pass::read_model;
@@ -33,76 +33,6 @@ fn is_read_at_once(alloc: Global, text: &[u8]) -> bool {
     match (checked(alloc, text), read_at_once(alloc, text)) {
         (Ok(model), Some(at_once)) => same_model(&model, &at_once),
         _ => false,
-    }
-}
-
-/// The first fault of a text.
-fn told(alloc: Global, text: &[u8]) -> Option<(StaticKind, usize)> {
-    match checked(alloc, text) {
-        Err(StaticError::Fault { kind, at }) => Some((kind, at)),
-        Ok(_) | Err(StaticError::NoMemory) => None,
-    }
-}
-
-/// Texts that break a rule in a way of their own, each with its first fault and the byte. The program's own
-/// tests have one for each rule.
-const BROKEN: [(&[u8], StaticKind, usize); 9] = [
-    // Both rules are broken at one byte: the first of the table is reported.
-    (
-        b"model M; watch X, X; vertex RUN { } end",
-        StaticKind::UnknownName,
-        15,
-    ),
-    // A parameter, and a watched vertex, that occur twice.
-    (
-        b"model M; var X : 0..9 = 0; vertex RUN(X, X) { } end",
-        StaticKind::DuplicateName,
-        41,
-    ),
-    (
-        b"model M; watch RUN, RUN; vertex RUN { } end",
-        StaticKind::DuplicateName,
-        20,
-    ),
-    // A truth value is carried to a parameter that is a number, and the parts of an `if` differ.
-    (
-        b"model M; var X : 0..9 = 0; vertex RUN(X) { schedule RUN(true); } end",
-        StaticKind::KindMismatch,
-        56,
-    ),
-    (
-        b"model M; var X : 0..9 = 0; vertex RUN { set X := if true then 1 else false; } end",
-        StaticKind::KindMismatch,
-        69,
-    ),
-    // A table is no variable, an array no scalar, and a variable no vertex.
-    (
-        b"model M; table T { 1 : 1; } vertex RUN { set T := 1; } end",
-        StaticKind::WrongUse,
-        45,
-    ),
-    (
-        b"model M; var X[2] : 0..9 = 0; vertex RUN { set X := 1; } end",
-        StaticKind::WrongUse,
-        47,
-    ),
-    (
-        b"model M; var X : 0..9 = 0; vertex RUN { urgent X; } end",
-        StaticKind::WrongUse,
-        47,
-    ),
-    // `cancel` counts no values, but `cancel` with values does.
-    (
-        b"model M; var X : 0..9 = 0; vertex RUN(X) { cancel RUN; cancel all RUN; urgent RUN; } end",
-        StaticKind::ValueCount,
-        78,
-    ),
-];
-
-#[test]
-fn faults_are_reported_at_their_bytes(rt: HostRuntime) {
-    for (text, kind, at) in BROKEN {
-        assert_eq!(rt; told(rt.alloc(), text), Some((kind, at)));
     }
 }
 
