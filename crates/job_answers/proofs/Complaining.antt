@@ -2,21 +2,17 @@
 use Rattle.std.proofs.Common.{◌≡◌, ◌⊎◌, inl, inr, ℕ, ◌≤◌, List, length, Option, Some, None, Result, Ok, Err, refl, sym, ap, subst, ◌∙◌}
 use Rattle.sig_base.specs.declared.limits.TheConstants.{TEXT_MAX, OPENINGS_MAX}
 use Rattle.model_core.specs.declared.static_kind.StaticKind.{StaticKind}
-use Rattle.model_core.specs.EventGraph.{EventGraph}
-use Rattle.model_core.specs.Text.Lexing.{Lexeme, tokens_of}
-use Rattle.model_core.specs.Text.Written.{WrittenModel}
 use Rattle.model_core.specs.Text.Language.{IsText}
 use Rattle.model_core.specs.Text.FirstWrong.{IsUnexpectedAt}
 use Rattle.model_core.specs.Text.Openings.{too_deep_at}
 use Rattle.model_core.specs.Text.ModelText.{SpellsText}
 use Rattle.model_core.specs.Static.FaultOrder.{StaticFault}
-use Rattle.model_core.specs.Static.ModelFaults.{IsFirstFault, first_fault}
-use Rattle.model_core.specs.Static.Reading.{Reads}
 use Rattle.answer_delivery.specs.declared.complaint.Complaint.{Complaint}
 use Rattle.answer_delivery.specs.declared.complaint.Complaint.TheVariants as complaints
 use Rattle.answer_delivery.specs.Complaints.{IsComplaint}
 use Rattle.job_answers.specs.TextComplaints.{HasComplaint}
 use Rattle.job_answers.specs.Inner.TextFacts.{TextFacts}
+use Rattle.job_answers.proofs.ModelTerms.{EventGraph, Lexeme, tokens_of, WrittenModel, IsFirstFault, first_fault, Reads}
 
 -- a text has one list of tokens
 same_tokens : (text : List ℕ) (a b : List Lexeme) → tokens_of text ≡ Ok a → tokens_of text ≡ Ok b → a ≡ b

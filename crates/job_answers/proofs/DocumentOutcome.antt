@@ -3,21 +3,16 @@
 use Rattle.std.proofs.Common.{◌≡◌, ◌⊎◌, inl, inr, ℕ, ◌≤◌, List, length, refl, sym, ap, ◌∙◌}
 use Rattle.std.specs.Prelude.{Option, Some, None, Result, Ok, Err}
 use Rattle.sig_base.specs.declared.limits.TheConstants.{DOCUMENT_MAX}
-use Rattle.model_core.specs.EventGraph.{EventGraph}
-use Rattle.model_core.specs.Rules.Reduction.{RuleApplication}
-use Rattle.model_core.specs.Text.Lexing.{Lexeme, tokens_of}
-use Rattle.model_core.specs.Text.Written.{WrittenModel}
 use Rattle.model_core.specs.Text.CertificateText.{certificate_format, IsCertificate, IsNoCertificateAt}
 use Rattle.model_core.specs.Text.DocumentText.{SpellsDocument}
 use Rattle.model_core.specs.Static.FaultOrder.{StaticFault}
-use Rattle.model_core.specs.Static.ModelFaults.{first_fault, Accepted}
-use Rattle.model_core.specs.Static.Reading.{ReadsDocument}
 use Rattle.text_laws.proofs.Formats.OneTokenDecides.{certificate-fine}
 use Rattle.text_laws.proofs.Formats.TextLaws.{one_value, spelled_or_wrong, one_wrong_place}
 use Rattle.answer_delivery.specs.declared.complaint.Complaint.{Complaint}
 use Rattle.answer_delivery.specs.declared.complaint.Complaint.TheVariants as complaints
 use Rattle.job_answers.specs.DocumentComplaints.{IsGrammarComplaint, in_first, in_second, in_certificate, IsDocumentComplaint, of_bytes, of_tokens, of_first, of_second}
 use Rattle.job_answers.specs.TextComplaints.{HasDocumentComplaint}
+use Rattle.job_answers.proofs.ModelTerms.{EventGraph, Lexeme, tokens_of, WrittenModel, first_fault, Accepted, ReadsDocument, RuleApplication}
 use Rattle.job_answers.proofs.FaultLaws.{FaultLaws}
 use Rattle.job_answers.proofs.FrontOutcome.{Computed, and_then, front_outcome, front_begun, front_complained, FrontFault, FrontModel, front_or_fault, unless_fault, one_graph}
 

@@ -1,9 +1,7 @@
 -- The law of static faults, in one record: each written model has one first fault, or is accepted.
 use Rattle.std.specs.Prelude.{◌≡◌, ◌↔◌, Some, None}
-use Rattle.model_core.specs.EventGraph.{EventGraph}
-use Rattle.model_core.specs.Text.Written.{WrittenModel}
 use Rattle.model_core.specs.Static.FaultOrder.{StaticFault}
-use Rattle.model_core.specs.Static.ModelFaults.{IsFirstFault, first_fault, Accepted}
+use Rattle.job_answers.proofs.ModelTerms.{EventGraph, WrittenModel, IsFirstFault, first_fault, Accepted}
 
 pub record FaultLaws : Type 0 where
   pub first_is_fault : (m : WrittenModel) (f : StaticFault) → first_fault m ≡ Some f ↔ IsFirstFault m f.kind f.at

@@ -3,9 +3,6 @@ use Rattle.std.proofs.Common.{◌≡◌, ◌⊎◌, inl, inr, ℕ, Bool, true, f
 use Rattle.std.specs.Prelude.{Option, Some, None, Result, Ok, Err, if◌then◌else◌}
 use Rattle.std.proofs.lemmas.List.{append_cancel_left}
 use Rattle.sig_base.specs.declared.limits.TheConstants.{OPENINGS_MAX}
-use Rattle.model_core.specs.EventGraph.{EventGraph}
-use Rattle.model_core.specs.Text.Lexing.{Lexeme}
-use Rattle.model_core.specs.Text.Written.{WrittenModel}
 use Rattle.model_core.specs.Text.Language.{text_format, IsText, BeginsWithText}
 use Rattle.model_core.specs.Text.FirstWrong.{IsUnexpectedAt}
 use Rattle.model_core.specs.Text.Openings.{is_end_word, front_to_end, too_deep_at}
@@ -19,6 +16,7 @@ use Rattle.text_laws.proofs.Formats.EndWord.{front-is_text, text-is_front}
 use Rattle.answer_delivery.specs.declared.complaint.Complaint.{Complaint}
 use Rattle.answer_delivery.specs.declared.complaint.Complaint.TheVariants as complaints
 use Rattle.job_answers.specs.DocumentComplaints.{IsFrontComplaint}
+use Rattle.job_answers.proofs.ModelTerms.{EventGraph, Lexeme, WrittenModel}
 
 -- a value, or what there is to complain of and where
 abbrev pub Computed : Type 0 → Type 0

@@ -6,21 +6,17 @@ use Rattle.std.specs.Option.{option_map, option_map_or}
 use Rattle.std.proofs.lemmas.Bool.Decides.{nat_tests}
 use Rattle.std.proofs.lemmas.List.{length-map}
 use Rattle.sig_base.specs.declared.limits.TheConstants.{STOP_MAX, EVENTS_MAX}
-use Rattle.model_core.specs.EventGraph.{EventGraph, EventVertex, Variable}
 use Rattle.model_core.specs.Run.State.{cell_count, within, in_ranges}
 use Rattle.model_core.specs.Run.Step.{vertex_at}
-use Rattle.model_core.specs.Rules.Reduction.{place_of_vertex}
-use Rattle.model_core.specs.Text.Lexing.{same_bytes}
-use Rattle.model_core.specs.Text.Written.{WrittenNumber}
 use Rattle.model_core.specs.Text.Numbering as numbering
 use Rattle.model_core.specs.Text.SnapshotGrammar.{WrittenStream, WrittenValue, WrittenNoted, WrittenCarried, WrittenPending, WrittenSnapshot}
 use Rattle.model_core.specs.Saved.Cells.{cell_variables, variables_watched}
-use Rattle.model_core.specs.Saved.SavedRun.{SavedRun, IsWide, IsGoodEntry, IsGood}
 use Rattle.model_core.specs.Saved.GoodSnapshots.{number_or_zero, is_at_most, from_one_to, signed_values, all_known, fit_variables, carried_of, is_wide, JudgedPart, stream_parts, value_parts, noted_parts, has_parameters, pending_part, snapshot_parts, first_bad_part, bad_at, with_taken, saved_entry, saved_run}
 use Rattle.model_core.proofs.BothTrue.{and_first, and_second}
 use Rattle.model_core.proofs.RangesTogether.{in_ranges-append}
 use Rattle.bound_laws.proofs.Soundness.Ends.{le_of}
 use Rattle.job_answers.specs.SavedReading.{ReadsSaved}
+use Rattle.job_answers.proofs.ModelTerms.{EventGraph, EventVertex, Variable, same_bytes, WrittenNumber, place_of_vertex, SavedRun, IsWide, IsGoodEntry, IsGood}
 
 -- ---- parts
 

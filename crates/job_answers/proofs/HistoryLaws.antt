@@ -6,10 +6,6 @@ use Rattle.std.proofs.lemmas.Grind.{flat_map-append}
 use Rattle.std.proofs.lemmas.List.{take-append-drop, length-take, take_all}
 use Rattle.std.proofs.Math.Seq.{take-append_seam, take-length}
 use Rattle.sig_base.specs.Sink.{Outlet, GrowsBy}
-use Rattle.model_core.specs.EventGraph.{EventGraph}
-use Rattle.model_core.specs.Code.Views.{graph_of}
-use Rattle.model_core.specs.Run.Machine.{Note, Look, RunStatus, Ended, Stopped, Faulted, Going}
-use Rattle.model_core.specs.Run.History.{Moment, look_from}
 use Rattle.model_core.specs.Text.HistoryText.{note_line, end_line, history_text}
 use Rattle.run_control.specs.Running.{Running}
 use Rattle.watch_trace.specs.declared.outcome.Outcome.{Outcome}
@@ -22,6 +18,7 @@ use Rattle.answer_delivery.specs.declared.status.Status.TheVariants as statuses
 use Rattle.job_answers.specs.RunAnswer.{end_of, answer_of_look, refused_or, ExceedsRoomFrom}
 use Rattle.job_answers.specs.Inner.WritingSteps.{StreamsBytes}
 use Rattle.job_answers.specs.Inner.RunSteps.{ending, DeliversHistory}
+use Rattle.job_answers.proofs.ModelTerms.{EventGraph, graph_of, Note, Look, RunStatus, Ended, Stopped, Faulted, Going, Moment, look_from}
 use Rattle.job_answers.proofs.AnswerTerms.{Given, End, Failure, DeliveryOutcome, status_of_answer, GrowsByFront, Closed}
 use Rattle.job_answers.proofs.GivenAnswers.{given_is_no_refusal, some_bytes, end_unrefused}
 use Rattle.job_answers.proofs.Streaming.{closed, closed_in_memory, stream_fails, stopped_short}

@@ -1,4 +1,5 @@
 mod AnswerTerms
+mod ModelTerms
 pub mod Complaining
 pub mod StartLaws
 pub mod HistoryLaws

@@ -2,14 +2,9 @@
 -- vertices have no more parameters than a vertex may have.
 use Rattle.std.proofs.Common.{List, ℕ, ◌≤◌, [], ◌∷◌, length, subst}
 use Rattle.std.specs.List.{AllByRecursion}
-use Rattle.model_core.specs.EventGraph.{EventGraph, EventVertex, Variable}
 use Rattle.sig_base.specs.declared.limits.TheConstants.{PARAMETERS_MAX}
 use Rattle.model_core.specs.Text.Openings.{front_to_end}
-use Rattle.model_core.specs.Text.Written.{WrittenModel}
-use Rattle.model_core.specs.Static.ModelFaults.{Accepted}
 use Rattle.model_core.specs.Static.OwnRules.{KeepsVertex, parameters_of}
-use Rattle.model_core.specs.Static.Reading.{IsValid}
-use Rattle.model_core.specs.Saved.SavedRun.{SavedRun}
 use Rattle.model_core.proofs.EachOne.{every-front}
 use Rattle.text_laws.proofs.Formats.EndWord.{front-is_text}
 use Rattle.static_laws.proofs.StaticTwins.ModelTwin.{accepted_by_itself}
@@ -17,6 +12,7 @@ use Rattle.round_trip.proofs.TokensOfTexts.{GoodTokens, tokens_good}
 use Rattle.round_trip.proofs.ModelTold.{derived-spellable}
 use Rattle.round_trip.proofs.ByParts.{by_parts}
 use Rattle.job_answers.specs.SavedReading.{ReadsSaved}
+use Rattle.job_answers.proofs.ModelTerms.{EventGraph, EventVertex, Variable, WrittenModel, Accepted, IsValid, SavedRun}
 
 pub saved_model_valid : (text : List ℕ) (g : EventGraph) (s : SavedRun) → ReadsSaved text g s → IsValid g
 saved_model_valid text g s reads =

@@ -3,21 +3,17 @@
 use Rattle.std.proofs.Common.{◌≡◌, ◌⊎◌, inl, inr, ℕ, ◌≤◌, List, length, refl, sym, ap, ◌∙◌}
 use Rattle.std.specs.Prelude.{Option, Some, None, Result, Ok, Err}
 use Rattle.sig_base.specs.declared.limits.TheConstants.{DOCUMENT_MAX}
-use Rattle.model_core.specs.EventGraph.{EventGraph}
-use Rattle.model_core.specs.Text.Lexing.{Lexeme, tokens_of}
-use Rattle.model_core.specs.Text.Written.{WrittenModel}
 use Rattle.model_core.specs.Text.Numbering.{numbered}
 use Rattle.model_core.specs.Text.SnapshotGrammar.{WrittenSnapshot, IsSnapshot, IsNoSnapshotAt}
 use Rattle.model_core.specs.Text.SavedDocument.{SpellsSaved}
 use Rattle.model_core.specs.Static.FaultOrder.{StaticFault}
-use Rattle.model_core.specs.Static.ModelFaults.{first_fault, Accepted}
-use Rattle.model_core.specs.Saved.SavedRun.{SavedRun}
 use Rattle.model_core.specs.Saved.GoodSnapshots.{bad_at, saved_run}
 use Rattle.answer_delivery.specs.declared.complaint.Complaint.{Complaint}
 use Rattle.answer_delivery.specs.declared.complaint.Complaint.TheVariants as complaints
 use Rattle.job_answers.specs.SavedReading.{ReadsSaved}
 use Rattle.job_answers.specs.SavedComplaints.{IsSavedGrammarComplaint, in_model, in_snapshot, IsSavedComplaint, of_saved_bytes, of_saved_tokens, of_model, of_snapshot}
 use Rattle.job_answers.specs.TextComplaints.{HasSavedComplaint}
+use Rattle.job_answers.proofs.ModelTerms.{EventGraph, Lexeme, tokens_of, WrittenModel, first_fault, Accepted, SavedRun}
 use Rattle.job_answers.proofs.FaultLaws.{FaultLaws}
 use Rattle.job_answers.proofs.FrontOutcome.{Computed, and_then, front_outcome, front_begun, front_complained, FrontFault, FrontModel, front_or_fault, unless_fault, one_graph}
 

@@ -9,23 +9,18 @@ use Rattle.std.proofs.Math.Seq.{take-append_seam, drop-append_seam}
 use lib.Pointwise.{bytes_decides}
 use Rattle.model_core.specs.declared.token.Word.TheVariants as words
 use Rattle.model_core.specs.declared.token.Symbol.TheVariants as symbols
-use Rattle.model_core.specs.EventGraph.{EventGraph, EventVertex, Variable}
 use Rattle.model_core.specs.Run.State.{cell_count, within, in_ranges}
 use Rattle.model_core.specs.Run.Pending.{Entry}
-use Rattle.model_core.specs.Text.Lexing.{LexemeKind, NameOf, Reserved, Mark, same_bytes}
-use Rattle.model_core.specs.Text.Canonical.{vertex_name}
-use Rattle.model_core.specs.Text.Written.{WrittenNumber, WrittenSigned}
 use Rattle.model_core.specs.Text.Numbering as numbering
 use Rattle.model_core.specs.Text.Numbering.{◌>>=◌, natural_of}
 use Rattle.model_core.specs.Text.Format.{separated}
 use Rattle.model_core.specs.Text.Language.{signed_format}
 use Rattle.model_core.specs.Text.SnapshotGrammar.{WrittenStream, WrittenValue, WrittenNoted, WrittenCarried, WrittenPending, stream_format, value_format, noted_format, exact_format, carried_format, carries_format, pending_format}
-use Rattle.model_core.specs.Rules.Reduction.{place_of_vertex}
 use Rattle.model_core.specs.Saved.Cells.{cell_variables, variables_watched}
-use Rattle.model_core.specs.Saved.SavedRun.{SavedRun}
 use Rattle.model_core.specs.Saved.GoodSnapshots.{number_or_zero, is_at_most, from_one_to, signed_values, all_known, fit_variables, carried_of, is_wide, stream_parts, value_parts, noted_parts, has_parameters, pending_part, with_taken, saved_entry}
 use Rattle.model_core.proofs.BothTrue.{and_first, and_second}
 use Rattle.job_answers.specs.PlainKinds.{before_kinds}
+use Rattle.job_answers.proofs.ModelTerms.{EventGraph, EventVertex, Variable, LexemeKind, NameOf, Reserved, Mark, same_bytes, WrittenNumber, WrittenSigned, vertex_name, place_of_vertex, SavedRun}
 use Rattle.job_answers.proofs.GoodRuns.{AllGood}
 use Rattle.job_answers.proofs.Showing.{number, Showing, Shows, Makes, makes, KeepsValue, keeps_value, Behind, Maybe, Each, AMarkSo, ANameSo, ANumberSo, AnExactSo, shows-then, shows-made, shows-past, shows-behind, shows-as, shows-either, shows-maybe, shows-many, shows-this_name, shows-mark, shows-name, shows-number, shows-exact}
 

@@ -5,15 +5,13 @@ use Rattle.std.specs.List.{flat_map}
 use Rattle.std.specs.Option.{option_map}
 use Rattle.std.proofs.lemmas.Bool.Decides.{nat_tests}
 use Rattle.model_core.specs.declared.token.Word.TheVariants as words
-use Rattle.model_core.specs.EventGraph.{EventGraph}
-use Rattle.model_core.specs.Text.Lexing.{Lexeme, LexemeKind, NameOf, Reserved, tokens_from, tokens_of}
 use Rattle.model_core.specs.Text.Spellable.{IsSpellable}
 use Rattle.model_core.specs.Static.OwnRules.{KeepsStaticRules}
 use Rattle.model_core.specs.Text.SnapshotGrammar.{WrittenValue, WrittenNoted, WrittenSnapshot, snapshot_format, IsSnapshot}
 use Rattle.model_core.specs.Text.SnapshotText.{snapshot_text}
-use Rattle.model_core.specs.Saved.SavedRun.{SavedRun, IsGood}
 use Rattle.model_core.specs.Saved.GoodSnapshots.{number_or_zero, signed_values, bad_at, with_taken, saved_entry, saved_run}
 use Rattle.job_answers.specs.PlainKinds.{plain_kinds}
+use Rattle.job_answers.proofs.ModelTerms.{EventGraph, Lexeme, LexemeKind, NameOf, Reserved, tokens_from, tokens_of, SavedRun, IsGood}
 use Rattle.job_answers.proofs.GoodRuns.{good_parts, good_run}
 use Rattle.job_answers.proofs.Showing.{number, AreExact, tokens-exact, exact-behind, Showing, Shows, Makes, makes, KeepsValue, keeps_value, Maybe, Each, AWordSo, ANumberSo, shows-yields, shows-then, shows-past, shows-maybe, shows-many, shows-this_name, shows-reserved, shows-number}
 use Rattle.job_answers.proofs.SnapshotKinds.{streams_kinds, values_kinds, noted_kinds, events_kinds, run_kinds, tested-number, tested-value, AStreamSo, shows-stream, streams-shown, AValueSo, shows-value, values-shown, ANotedSo, shows-noted, noted-shown, APendingSo, shows-pending, events-shown}

@@ -4,10 +4,8 @@ use Rattle.std.specs.Prelude.{IsTrue, cond}
 use Rattle.std.proofs.lemmas.Bool.{eq-eqb, ne_eqb}
 use Rattle.std.proofs.lemmas.Bool.Decides.{nat_tests}
 use lib.Pointwise.{pointwise}
-use Rattle.model_core.specs.EventGraph.{EventGraph, Variable}
 use Rattle.model_core.proofs.BothTrue.{and_first, and_second}
 use Rattle.model_core.specs.Run.State.{within, no_variable}
-use Rattle.model_core.specs.Run.History.{allowed, start_parameters}
 use Rattle.sig_base.specs.Sink.{Outlet}
 use Rattle.run_control.specs.declared.begin_error.BeginError.{BeginError}
 use Rattle.run_control.specs.declared.begin_error.BeginError.TheVariants as errors
@@ -18,6 +16,7 @@ use Rattle.answer_delivery.specs.declared.status.Refusal.TheVariants as refusals
 use Rattle.job_answers.specs.RunAnswer.{refused_or}
 use Rattle.job_answers.specs.StartingValues.{count_line, outside_line, first_outside, start_refusal}
 use Rattle.job_answers.specs.Inner.StartSteps.{IsRefusalLine, RefusesToBegin}
+use Rattle.job_answers.proofs.ModelTerms.{EventGraph, Variable, allowed, start_parameters}
 use Rattle.job_answers.proofs.AnswerTerms.{Answer, Refused, Failure, DeliveryOutcome, DeliversSome}
 
 -- the line names the first value outside its range

@@ -3,10 +3,9 @@ use Rattle.std.proofs.Common.{inr, ◌<◌, length, arith}
 use Rattle.std.specs.Prelude.{codes}
 use Rattle.command_words.specs.declared.reading.ModelJob.TheVariants.{Check}
 use Rattle.command_words.specs.declared.reading.Reading.TheVariants.{Model}
-use Rattle.model_core.specs.EventGraph.{EventGraph}
-use Rattle.model_core.specs.Static.Reading.{IsValid}
 use Rattle.job_answers.specs.AnswerLaws.{KeepsAnswerLaws}
 use Rattle.job_answers.specs.Answers.{accepted_line, HasNothingToWrite}
+use Rattle.job_answers.proofs.ModelTerms.{EventGraph, IsValid}
 use Rattle.job_answers.proofs.GivenAnswers.{begins_with, done_answer}
 
 has_bytes : (g : EventGraph) → 0 < length (accepted_line g)

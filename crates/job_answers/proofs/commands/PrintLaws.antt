@@ -5,12 +5,10 @@ use Rattle.std.specs.List.{flat_map}
 use Rattle.std.proofs.lemmas.List.{append-nil}
 use Rattle.command_words.specs.declared.reading.ModelJob.TheVariants.{Print}
 use Rattle.command_words.specs.declared.reading.Reading.TheVariants.{Model}
-use Rattle.model_core.specs.EventGraph.{EventGraph}
-use Rattle.model_core.specs.Static.Reading.{IsValid}
 use Rattle.model_core.specs.Text.VersionNeeded.{needs_version_two}
-use Rattle.model_core.specs.Text.Canonical.{variable_line, table_line, watch_line, vertex_lines, version_line, canonical}
 use Rattle.job_answers.specs.AnswerLaws.{KeepsAnswerLaws}
 use Rattle.job_answers.specs.Answers.{HasNothingToWrite}
+use Rattle.job_answers.proofs.ModelTerms.{EventGraph, variable_line, table_line, watch_line, vertex_lines, version_line, canonical, IsValid}
 use Rattle.job_answers.proofs.GivenAnswers.{done_answer}
 
 ends_with : (front last later : List ℕ) → 0 < length last → 0 < length ((front ++ last) ++ later)

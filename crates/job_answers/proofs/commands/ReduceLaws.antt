@@ -2,14 +2,11 @@
 use Rattle.std.proofs.Common.{◌≡◌, inr, ℕ, ◌<◌, List, ◌++◌, length, refl, sym, ap, ap₂, ◌∙◌, subst}
 use Rattle.command_words.specs.declared.reading.ModelJob.TheVariants.{Reduce}
 use Rattle.command_words.specs.declared.reading.Reading.TheVariants.{Model}
-use Rattle.model_core.specs.EventGraph.{EventGraph}
-use Rattle.model_core.specs.Static.Reading.{IsValid}
-use Rattle.model_core.specs.Text.Canonical.{canonical}
 use Rattle.model_core.specs.Rules.Certificate.{certificate}
-use Rattle.model_core.specs.Rules.Reduction.{RuleApplication, Strategy}
 use Rattle.answer_delivery.specs.declared.status.End.TheVariants as ends
 use Rattle.job_answers.specs.AnswerLaws.{KeepsAnswerLaws}
 use Rattle.job_answers.specs.ReduceAnswer.{Reduces}
+use Rattle.job_answers.proofs.ModelTerms.{EventGraph, canonical, IsValid, RuleApplication, Strategy}
 use Rattle.job_answers.proofs.AnswerTerms.{Answer, done, IsDone, status_of_answer}
 use Rattle.job_answers.proofs.GivenAnswers.{some_bytes, end_unrefused}
 use Rattle.job_answers.proofs.commands.PrintLaws.{canonical_has_bytes}

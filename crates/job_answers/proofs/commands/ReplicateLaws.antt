@@ -7,8 +7,6 @@ use Rattle.command_words.specs.declared.reading.ModelJob.TheVariants.{Replicate}
 use Rattle.command_words.specs.declared.reading.Reading.TheVariants.{Model as OfModel}
 use Rattle.command_words.specs.declared.replicate_options.ReplicateOptions.{ReplicateOptions}
 use Rattle.sig_base.specs.Sink.{Outlet}
-use Rattle.model_core.specs.EventGraph.{EventGraph}
-use Rattle.model_core.specs.Run.History.{allowed}
 use Rattle.tally_report.specs.declared.run_tally.RunTally.{RunTally}
 use Rattle.tally_report.specs.ReportText.{header_row, run_rows, total_rows}
 use Rattle.tally_report.specs.Totalling.{RunTotals, no_totals, totals_from, with_run}
@@ -20,6 +18,7 @@ use Rattle.job_answers.specs.RunAnswer.{refused_or}
 use Rattle.job_answers.specs.StartingValues.{start_refusal}
 use Rattle.job_answers.specs.Inner.ReportSteps.{rest_of_report, IsWrittenUpTo}
 use Rattle.job_answers.specs.Inner.WritingSteps.{WritesPieces}
+use Rattle.job_answers.proofs.ModelTerms.{EventGraph, allowed}
 use Rattle.job_answers.proofs.AnswerTerms.{Given, End, Failure, DeliveryOutcome, done, status_of_answer, DeliversSome, Closed}
 use Rattle.job_answers.proofs.GivenAnswers.{given_is_no_refusal, some_bytes}
 use Rattle.job_answers.proofs.PiecesWritten.{no_piece_written, further, next_piece_fails, broken_answer}

@@ -6,10 +6,6 @@ use Rattle.command_words.specs.declared.reading.SavedJob.TheVariants.{Resume}
 use Rattle.command_words.specs.declared.resume_options.ResumeOptions.{ResumeOptions}
 use Rattle.sig_base.specs.Sink.{Outlet}
 use Rattle.model_core.specs.declared.model.Model.{Model}
-use Rattle.model_core.specs.EventGraph.{EventGraph}
-use Rattle.model_core.specs.Code.Views.{graph_of}
-use Rattle.model_core.specs.Run.History.{Moment}
-use Rattle.model_core.specs.Saved.SavedRun.{SavedRun, saved_moment, history_from}
 use Rattle.run_control.specs.Running.{Running}
 use Rattle.run_snapshot.specs.ResumedRun.{ResumedRun}
 use Rattle.watch_trace.specs.Tracing.{Tracing, moment_of}
@@ -19,6 +15,7 @@ use Rattle.job_answers.specs.AnswerLaws.{KeepsAnswerLaws}
 use Rattle.job_answers.specs.RunAnswer.{answer_of_look, refused_or}
 use Rattle.job_answers.specs.ResumeAnswer.{resume_refusal, resume_answer, ResumedExceedsRoom}
 use Rattle.job_answers.specs.Inner.RunSteps.{DeliversHistory}
+use Rattle.job_answers.proofs.ModelTerms.{EventGraph, graph_of, Moment, SavedRun, saved_moment, history_from}
 use Rattle.job_answers.proofs.AnswerTerms.{Answer, Refused, Failure, DeliveryOutcome, status_of_answer, DeliversSome}
 use Rattle.job_answers.proofs.HistoryLaws.{look_has_bytes, look_unrefused}
 

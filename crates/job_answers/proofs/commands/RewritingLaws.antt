@@ -1,16 +1,14 @@
 -- The laws of an answer that is the text of a rewritten model: there is a rewritten model, and only one.
 use Rattle.std.proofs.Common.{◌≡◌, inr, ℕ, ◌<◌, List, [], length, refl, sym, ap, ◌∙◌, subst}
 use Rattle.std.proofs.lemmas.List.{append-nil}
-use Rattle.model_core.specs.EventGraph.{EventGraph}
-use Rattle.model_core.specs.Static.Reading.{IsValid}
 use Rattle.model_core.specs.Rules.Fuse.{Fused}
 use Rattle.model_core.specs.Ranges.Narrowed.{IsNarrowed}
-use Rattle.model_core.specs.Text.Canonical.{canonical}
 use Rattle.command_words.specs.declared.reading.ModelJob.TheVariants.{Fuse, Narrow}
 use Rattle.command_words.specs.declared.reading.Reading.TheVariants.{Model}
 use Rattle.answer_delivery.specs.declared.status.End.TheVariants as ends
 use Rattle.job_answers.specs.AnswerLaws.{HasOneAnswer, KeepsAnswerLaws}
 use Rattle.job_answers.specs.RewrittenAnswer.{Rewrites}
+use Rattle.job_answers.proofs.ModelTerms.{EventGraph, canonical, IsValid}
 use Rattle.job_answers.proofs.AnswerTerms.{Answer, done, IsDone, status_of_answer}
 use Rattle.job_answers.proofs.GivenAnswers.{some_bytes, end_unrefused}
 use Rattle.job_answers.proofs.commands.PrintLaws.{canonical_has_bytes}

@@ -2,12 +2,10 @@
 use Rattle.std.proofs.Common.{inl, inr, ℕ, List, sym, subst}
 use Rattle.command_words.specs.declared.reading.ModelJob.{ModelJob}
 use Rattle.command_words.specs.declared.reading.Reading.TheVariants.{Model}
-use Rattle.model_core.specs.EventGraph.{EventGraph}
 use Rattle.model_core.specs.Run.Same.{Same}
-use Rattle.model_core.specs.Static.Reading.{Reads, IsValid}
-use Rattle.model_core.specs.Text.Canonical.{canonical}
 use Rattle.job_answers.specs.Answers.{AnswersModel, Responds, Answers}
 use Rattle.job_answers.specs.RewrittenAnswer.{Rewrites, RewritesTheSame}
+use Rattle.job_answers.proofs.ModelTerms.{EventGraph, canonical, Reads, IsValid}
 use Rattle.job_answers.proofs.AnswerTerms.{Answer, Given, End, IsDone}
 use Rattle.job_answers.proofs.GivenAnswers.{given_is_no_refusal, given_bytes}
 

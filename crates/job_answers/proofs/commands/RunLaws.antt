@@ -6,9 +6,6 @@ use Rattle.command_words.specs.declared.reading.Reading.TheVariants.{Model as Of
 use Rattle.command_words.specs.declared.run_options.RunOptions.{RunOptions}
 use Rattle.sig_base.specs.Sink.{Outlet}
 use Rattle.model_core.specs.declared.model.Model.{Model}
-use Rattle.model_core.specs.EventGraph.{EventGraph}
-use Rattle.model_core.specs.Code.Views.{graph_of}
-use Rattle.model_core.specs.Run.History.{Moment, start, look}
 use Rattle.model_core.specs.Run.Step.{Configuration}
 use Rattle.run_control.specs.Beginning.{BegunRun}
 use Rattle.run_control.specs.Running.{Running}
@@ -17,6 +14,7 @@ use Rattle.job_answers.specs.AnswerLaws.{KeepsAnswerLaws}
 use Rattle.job_answers.specs.RunAnswer.{answer_of_look, refused_or, run_answer, ExceedsRoom}
 use Rattle.job_answers.specs.StartingValues.{start_refusal}
 use Rattle.job_answers.specs.Inner.RunSteps.{DeliversHistory}
+use Rattle.job_answers.proofs.ModelTerms.{EventGraph, graph_of, Moment, start, look}
 use Rattle.job_answers.proofs.AnswerTerms.{Answer, Failure, DeliveryOutcome, status_of_answer, DeliversSome}
 use Rattle.job_answers.proofs.HistoryLaws.{look_has_bytes, look_unrefused}
 use Rattle.job_answers.proofs.StartLaws.{taken_start}

@@ -7,14 +7,8 @@ use Rattle.command_words.specs.declared.reading.ModelJob.TheVariants.{Save}
 use Rattle.command_words.specs.declared.reading.Reading.TheVariants.{Model as OfModel}
 use Rattle.command_words.specs.declared.save_options.SaveOptions.{SaveOptions}
 use Rattle.model_core.specs.declared.model.Model.{Model}
-use Rattle.model_core.specs.EventGraph.{EventGraph}
-use Rattle.model_core.specs.Code.Views.{graph_of}
-use Rattle.model_core.specs.Run.Machine.{Note, RunStatus, Ended, Stopped, Faulted, Going, Look, Reached}
-use Rattle.model_core.specs.Run.History.{Moment, start, allowed, look, look_from, reached_from}
 use Rattle.model_core.specs.Run.Step.{Configuration}
-use Rattle.model_core.specs.Text.Canonical.{canonical}
 use Rattle.model_core.specs.Text.SnapshotText.{snapshot_text}
-use Rattle.model_core.specs.Saved.SavedRun.{SavedRun, saved, IsGood}
 use Rattle.model_core.specs.Saved.Resuming.{Resumes}
 use Rattle.model_core.specs.Saved.GoingOn.{GoesOn}
 use Rattle.run_control.specs.Beginning.{BegunRun}
@@ -31,6 +25,7 @@ use Rattle.job_answers.specs.RunAnswer.{refused_or}
 use Rattle.job_answers.specs.SaveAnswer.{run_finished, snapshot_too_long, document_reached, unless_too_long, unless_finished, saving_answer, save_answer}
 use Rattle.job_answers.specs.StartingValues.{start_refusal}
 use Rattle.job_answers.specs.Inner.SaveSteps.{SavedOrFinished}
+use Rattle.job_answers.proofs.ModelTerms.{EventGraph, graph_of, canonical, Note, RunStatus, Ended, Stopped, Faulted, Going, Look, Reached, Moment, start, allowed, look, look_from, reached_from, SavedRun, saved, IsGood}
 use Rattle.job_answers.proofs.AnswerTerms.{Answer, Given, Refused, End, done, status_of_answer}
 use Rattle.job_answers.proofs.GivenAnswers.{given_is_no_refusal, some_bytes, end_unrefused}
 use Rattle.job_answers.proofs.commands.PrintLaws.{canonical_has_bytes}

@@ -7,19 +7,11 @@ use Rattle.command_words.specs.declared.reading.ModelJob.TheVariants.{Save}
 use Rattle.command_words.specs.declared.reading.Reading.TheVariants.{Model as OfModel}
 use Rattle.command_words.specs.declared.save_options.SaveOptions.{SaveOptions}
 use Rattle.command_words.specs.KeptLimits.{KeepsLimits}
-use Rattle.model_core.specs.EventGraph.{EventGraph}
-use Rattle.model_core.specs.Run.Machine.{RunStatus, Ended, Stopped, Faulted, Going}
-use Rattle.model_core.specs.Run.History.{Moment, start, allowed, look, reached_from}
-use Rattle.model_core.specs.Text.Written.{WrittenModel}
-use Rattle.model_core.specs.Text.Canonical.{canonical}
 use Rattle.model_core.specs.Text.Spellable.{IsSpellable}
 use Rattle.model_core.specs.Text.SnapshotGrammar.{WrittenSnapshot}
 use Rattle.model_core.specs.Text.SnapshotText.{snapshot_text}
 use Rattle.model_core.specs.Text.SavedDocument.{SpellsSaved}
 use Rattle.model_core.specs.Static.OwnRules.{KeepsStaticRules}
-use Rattle.model_core.specs.Static.ModelFaults.{Accepted}
-use Rattle.model_core.specs.Static.Reading.{IsValid, Reads}
-use Rattle.model_core.specs.Saved.SavedRun.{SavedRun, IsGood, saved, history_from}
 use Rattle.model_core.specs.Saved.GoodSnapshots.{bad_at, saved_run}
 use Rattle.model_core.specs.Saved.Resuming.{Resumes}
 use Rattle.model_core.specs.Saved.GoingOn.{GoesOn}
@@ -31,6 +23,7 @@ use Rattle.job_answers.specs.SaveAnswer.{snapshot_too_long, saved_document, docu
 use Rattle.job_answers.specs.SavedAndResumed.{IsResumed, SavesTheRun}
 use Rattle.job_answers.specs.SavedReading.{ReadsSaved}
 use Rattle.job_answers.specs.StartingValues.{start_refusal}
+use Rattle.job_answers.proofs.ModelTerms.{EventGraph, WrittenModel, canonical, Accepted, IsValid, Reads, RunStatus, Ended, Stopped, Faulted, Going, Moment, start, allowed, look, reached_from, SavedRun, IsGood, saved, history_from}
 use Rattle.job_answers.proofs.AnswerTerms.{Given, Refused, End, done}
 use Rattle.job_answers.proofs.GivenAnswers.{given_is_no_refusal, given_bytes}
 use Rattle.job_answers.proofs.StartLaws.{unrefused_start}

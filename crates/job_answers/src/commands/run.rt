@@ -28,10 +28,10 @@ pub fn run<K: Sink>(
     requires soon { options.now.until ≤ STOP_MAX }
     requires budget { options.now.events ≤ EVENTS_MAX }
     ensures { DeliversSome K.seen
-        (λ a. a ≡ run_answer
-        (graph_of model.now) options.now.until options.now.seed options.now.events options.now.starts)
-        (ExceedsRoom
-        (graph_of model.now) options.now.until options.now.seed options.now.events options.now.starts options.now.room)
+        (λ a. a ≡ run_answer (graph_of model.now) options.now.until options.now.seed
+        options.now.events options.now.starts)
+        (ExceedsRoom (graph_of model.now) options.now.until options.now.seed
+        options.now.events options.now.starts options.now.room)
         result output.old output.new }
 {
     let run = match begin(alloc, model, options.seed, &options.starts, options.room) {

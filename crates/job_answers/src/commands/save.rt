@@ -44,8 +44,8 @@ fn saved_part<'m, P: Pending + Drop>(
     requires budget { options.now.events ≤ EVENTS_MAX }
     requires begun { (room : ℕ) × BegunRun model.now options.now.seed options.now.starts room run }
     ensures { IfOk result
-        (SavedOrFinished
-        (graph_of model.now) options.now.until options.now.seed options.now.events options.now.starts) }
+        (SavedOrFinished (graph_of model.now) options.now.until options.now.seed
+        options.now.events options.now.starts) }
 {
     let mut run = run;
     let mut tracer = Tracer::begin(alloc, model)?;

@@ -17,7 +17,8 @@ use trial_report::trial_text;
 pub fn trial(alloc: Global, options: &TrialOptions) -> Result<Answer, NoMemory>
     requires { KeepsLimits (Nothing (Trial options.now)) }
     ensures { IfOk result
-        (IsDone (Summarises options.now.seed options.now.vertices options.now.until options.now.events)) }
+        (IsDone (Summarises options.now.seed options.now.vertices
+        options.now.until options.now.events)) }
 {
     let out = trial_text(
         alloc,

@@ -3,9 +3,8 @@ use Rattle.std.proofs.Common.{◌≡◌, Result, subst, sym}
 use Rattle.sig_base.specs.Sink.{Outlet}
 use Rattle.command_words.specs.declared.reading.ModelJob.{ModelJob}
 use Rattle.command_words.specs.declared.reading.ModelJob.TheVariants as models
-use Rattle.model_core.specs.EventGraph.{EventGraph}
-use Rattle.model_core.specs.Code.Views.{graph_of}
 use Rattle.job_answers.specs.Answers.{AnswersModel, MayLackMemory}
+use Rattle.job_answers.proofs.ModelTerms.{EventGraph, graph_of}
 use Rattle.job_answers.proofs.AnswerTerms.{Failure, DeliveryOutcome, DeliversSome}
 use Rattle.job_answers.proofs.Streaming.{delivered}
 use Rattle.job_answers.proofs.answering.answer_model.Goals.{in-Check, in-Print, in-Uses, in-Conflicts, in-Describe, in-Run, in-Replicate, in-Save}

@@ -6,11 +6,6 @@ use Rattle.command_words.specs.declared.reading.ModelJob.{ModelJob}
 use Rattle.command_words.specs.declared.reading.Reading.{Reading}
 use Rattle.command_words.specs.declared.reading.Reading.TheVariants.{Model, Document, Saved}
 use Rattle.command_words.specs.declared.reading.SavedJob.{SavedJob}
-use Rattle.model_core.specs.EventGraph.{EventGraph}
-use Rattle.model_core.specs.Rules.Reduction.{RuleApplication}
-use Rattle.model_core.specs.Saved.SavedRun.{SavedRun}
-use Rattle.model_core.specs.Static.Reading.{Reads, ReadsDocument}
-use Rattle.model_core.specs.Code.Views.{graph_of, application_of}
 use Rattle.answer_delivery.specs.declared.complaint.Complaint.{Complaint}
 use Rattle.answer_delivery.specs.Complaints.{IsComplaint}
 use Rattle.job_answers.specs.declared.reading_error.ReadingError.{ReadingError}
@@ -20,6 +15,7 @@ use Rattle.job_answers.specs.DocumentComplaints.{IsDocumentComplaint}
 use Rattle.job_answers.specs.SavedComplaints.{IsSavedComplaint}
 use Rattle.job_answers.specs.SavedReading.{ReadsSaved}
 use Rattle.job_answers.specs.Inner.Refusals.{Complains}
+use Rattle.job_answers.proofs.ModelTerms.{EventGraph, graph_of, application_of, Reads, ReadsDocument, RuleApplication, SavedRun}
 use Rattle.job_answers.proofs.AnswerTerms.{Answer, Failure, DeliveryOutcome, DeliversSome}
 use Rattle.job_answers.proofs.SavedModels.{saved_model_valid}
 use Rattle.job_answers.proofs.answering.answer_text.Goals as goal

@@ -2,12 +2,11 @@
 use Rattle.std.proofs.Common.{◌≡◌, inl, inr, ℕ, List, ap, arith}
 use Rattle.command_words.specs.declared.reading.ModelJob.TheVariants.{Reduce}
 use Rattle.command_words.specs.declared.reading.Reading.TheVariants.{Model}
-use Rattle.model_core.specs.EventGraph.{EventGraph}
-use Rattle.model_core.specs.Static.Reading.{Reads}
 use Rattle.answer_delivery.specs.declared.complaint.Complaint.{Complaint}
 use Rattle.answer_delivery.specs.declared.status.Status.TheVariants as statuses
 use Rattle.job_answers.specs.Answers.{Responds, Answers}
 use Rattle.answer_delivery.specs.Complaints.{IsComplaint}
+use Rattle.job_answers.proofs.ModelTerms.{EventGraph, Reads}
 use Rattle.job_answers.proofs.AnswerTerms.{Answer, status_of_answer}
 use Rattle.job_answers.proofs.complaint_law.readable_models_are_reduced.Goals as goal
 

@@ -2,12 +2,11 @@
 use Rattle.std.proofs.Common.{◌≡◌, inl, inr, ℕ, List, subst, arith}
 use Rattle.command_words.specs.declared.reading.Reading.TheVariants.{Saved}
 use Rattle.command_words.specs.declared.reading.SavedJob.{SavedJob}
-use Rattle.model_core.specs.EventGraph.{EventGraph}
-use Rattle.model_core.specs.Saved.SavedRun.{SavedRun}
 use Rattle.answer_delivery.specs.declared.answer.Answer.{Answer}
 use Rattle.job_answers.specs.AnswerLaws.{SavedParts}
 use Rattle.job_answers.specs.Answers.{AnswersSaved, Responds, Answers}
 use Rattle.job_answers.specs.SavedReading.{ReadsSaved}
+use Rattle.job_answers.proofs.ModelTerms.{EventGraph, SavedRun}
 use Rattle.job_answers.proofs.document_law.read_runs_are_answered.Goals as goal
 
 pub returns : goal.returns

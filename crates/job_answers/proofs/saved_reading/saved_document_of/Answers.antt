@@ -1,11 +1,10 @@
 use Rattle.std.proofs.Common.{ℕ, List, Result, Ok, Err, subst}
 use Rattle.std.specs.Prelude.{IfOk}
-use Rattle.model_core.specs.Code.Views.{graph_of}
-use Rattle.model_core.specs.Saved.SavedRun.{IsGood}
 use Rattle.job_answers.specs.declared.reading_error.ReadingError.{ReadingError}
 use Rattle.job_answers.specs.declared.saved_reading.SavedDocument.{SavedDocument}
 use Rattle.job_answers.specs.SavedComplaints.{IsSavedComplaint}
 use Rattle.job_answers.specs.SavedReading.{ReadsSaved}
+use Rattle.job_answers.proofs.ModelTerms.{graph_of, IsGood}
 use Rattle.job_answers.proofs.GoodRuns.{good_reading}
 use Rattle.job_answers.proofs.saved_reading.saved_document_of.Goals as goal
 

@@ -1,8 +1,7 @@
 -- The certificate follows the text that was printed.
 use Rattle.std.proofs.Common.{◌∙◌, ◌++◌, map, ap}
-use Rattle.model_core.specs.Code.Views.{graph_of, application_of}
 use Rattle.model_core.specs.Rules.Certificate.{certificate}
-use Rattle.model_core.specs.Text.Canonical.{canonical}
+use Rattle.job_answers.proofs.ModelTerms.{graph_of, application_of, canonical}
 use Rattle.job_answers.proofs.commands.reduce.text_with_certificate.Goals as goal
 
 pub returns : goal.returns

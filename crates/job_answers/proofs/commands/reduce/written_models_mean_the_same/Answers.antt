@@ -2,10 +2,9 @@
 use Rattle.std.proofs.Common.{inl, inr, ℕ, List, sym, subst}
 use Rattle.command_words.specs.declared.reading.ModelJob.TheVariants.{Reduce}
 use Rattle.command_words.specs.declared.reading.Reading.TheVariants.{Model}
-use Rattle.model_core.specs.EventGraph.{EventGraph}
-use Rattle.model_core.specs.Static.Reading.{Reads, IsValid}
 use Rattle.job_answers.specs.Answers.{Responds, Answers}
 use Rattle.job_answers.specs.ReduceAnswer.{Reduces, KeepsMeaning}
+use Rattle.job_answers.proofs.ModelTerms.{EventGraph, Reads, IsValid}
 use Rattle.job_answers.proofs.AnswerTerms.{Given, End}
 use Rattle.job_answers.proofs.GivenAnswers.{given_is_no_refusal, given_bytes}
 use Rattle.job_answers.proofs.commands.reduce.written_models_mean_the_same.Goals as goal

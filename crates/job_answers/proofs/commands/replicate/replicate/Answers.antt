@@ -1,10 +1,9 @@
 use Rattle.std.proofs.Common.{List, ℤ, Result, sym, subst}
 use Rattle.std.specs.Prelude.{IsTrue}
-use Rattle.model_core.specs.Run.History.{allowed}
-use Rattle.model_core.specs.Code.Views.{graph_of}
 use Rattle.run_control.specs.Beginning.{RefusesStart}
 use Rattle.job_answers.specs.ReplicateAnswer.{report}
 use Rattle.job_answers.specs.Inner.WritingSteps.{WritesPieces}
+use Rattle.job_answers.proofs.ModelTerms.{graph_of, allowed}
 use Rattle.job_answers.proofs.AnswerTerms.{Failure, DeliveryOutcome, done}
 use Rattle.job_answers.proofs.PiecesWritten.{passed_failure}
 use Rattle.job_answers.proofs.commands.ReplicateLaws.{DeliversReport, report_broken, report_closed}

@@ -1,13 +1,12 @@
 use Rattle.std.proofs.Common.{◌≡◌, ℕ, ◌+◌, ◌-◌, List, Result, Ok, sym, ◌∙◌, subst, arith}
 use Rattle.sig_base.specs.Sink.{Outlet}
-use Rattle.model_core.specs.EventGraph.{EventGraph}
-use Rattle.model_core.specs.Code.Views.{graph_of}
 use Rattle.command_words.specs.declared.replicate_options.ReplicateOptions.{ReplicateOptions}
 use Rattle.tally_report.specs.ReportText.{header_row}
 use Rattle.tally_report.specs.Totalling.{RunTotals, no_totals}
 use Rattle.job_answers.specs.ReplicateAnswer.{report}
 use Rattle.job_answers.specs.Inner.ReportSteps.{rest_of_report, IsWrittenUpTo}
 use Rattle.job_answers.specs.Inner.WritingSteps.{WritesPieces}
+use Rattle.job_answers.proofs.ModelTerms.{EventGraph, graph_of}
 use Rattle.job_answers.proofs.AnswerTerms.{Failure, Written}
 use Rattle.job_answers.proofs.PiecesWritten.{at_last, whole_piece, next_piece_fails, further, passed_failure}
 use Rattle.job_answers.proofs.commands.ReplicateLaws.{Left, header_first}

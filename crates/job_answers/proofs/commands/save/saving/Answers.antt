@@ -1,9 +1,8 @@
 use Rattle.std.proofs.Common.{◌≡◌, Option, subst}
 use Rattle.std.specs.Prelude.{IfOk}
-use Rattle.model_core.specs.Code.Views.{graph_of}
-use Rattle.model_core.specs.Saved.SavedRun.{SavedRun}
 use Rattle.answer_delivery.specs.declared.answer.Answer.{Answer}
 use Rattle.job_answers.specs.Inner.SaveSteps.{SavedOrFinished}
+use Rattle.job_answers.proofs.ModelTerms.{graph_of, SavedRun}
 use Rattle.job_answers.proofs.commands.SaveLaws.{saved_is_good, saved_answer, finished_answer}
 use Rattle.job_answers.proofs.commands.save.saving.Goals as goal
 
