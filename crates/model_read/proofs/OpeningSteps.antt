@@ -28,26 +28,26 @@ further limit room after text tokens i d total h step so_far =
     ∙ so_far
 
 -- what a function says of a token's kind, whatever bytes it has
-abbrev TellsOfKind : (LexemeKind → Bool) → Bool → Piece → Type 0
-TellsOfKind f b t = (bytes : List ℕ) → b ≡ f (piece_kind bytes t.kind)
+abbrev TestsKind : (LexemeKind → Bool) → Bool → Piece → Type 0
+TestsKind f b t = (bytes : List ℕ) → b ≡ f (piece_kind bytes t.kind)
 
 -- one token more: it ends a part
-pub behind-end : (limit room after : ℕ) (text : List ℕ) (tokens : List Piece) (i : ℕ) (d : Piece) (total : Option ℕ) (ends : Bool) → i < length tokens → TellsOfKind ends_part ends (get_or tokens i d) → ends ≡ true → after ≡ limit
+pub past-end : (limit room after : ℕ) (text : List ℕ) (tokens : List Piece) (i : ℕ) (d : Piece) (total : Option ℕ) (ends : Bool) → i < length tokens → TestsKind ends_part ends (get_or tokens i d) → ends ≡ true → after ≡ limit
     → deep_from limit room (map (piece_of text) (drop i tokens)) ≡ total → deep_from limit after (map (piece_of text) (drop (i + 1) tokens)) ≡ total
-behind-end limit room after text tokens i d total ends h tells e f =
-    further limit room after text tokens i d total h (λ others. ended limit room (piece_of text (get_or tokens i d)) others (sym (tells _) ∙ e) ∙ ap (λ (n : ℕ). deep_from limit n others) (sym f))
+past-end limit room after text tokens i d total ends h of_end e f =
+    further limit room after text tokens i d total h (λ others. ended limit room (piece_of text (get_or tokens i d)) others (sym (of_end _) ∙ e) ∙ ap (λ (n : ℕ). deep_from limit n others) (sym f))
 
 -- it is an opening, for which there is room
-pub behind-opening : (limit room after : ℕ) (text : List ℕ) (tokens : List Piece) (i : ℕ) (d : Piece) (total : Option ℕ) (ends opens : Bool) → i < length tokens → TellsOfKind ends_part ends (get_or tokens i d) → ends ≡ false → TellsOfKind is_opening opens (get_or tokens i d) → opens ≡ true → room ≡ suc after
+pub past-opening : (limit room after : ℕ) (text : List ℕ) (tokens : List Piece) (i : ℕ) (d : Piece) (total : Option ℕ) (ends opens : Bool) → i < length tokens → TestsKind ends_part ends (get_or tokens i d) → ends ≡ false → TestsKind is_opening opens (get_or tokens i d) → opens ≡ true → room ≡ suc after
     → deep_from limit room (map (piece_of text) (drop i tokens)) ≡ total → deep_from limit after (map (piece_of text) (drop (i + 1) tokens)) ≡ total
-behind-opening limit room after text tokens i d total ends opens h tells e says f g =
-    further limit room after text tokens i d total h (λ others. opened limit room after (piece_of text (get_or tokens i d)) others (sym (tells _) ∙ e) (sym (says _) ∙ f) g)
+past-opening limit room after text tokens i d total ends opens h of_end e of_opening f g =
+    further limit room after text tokens i d total h (λ others. opened limit room after (piece_of text (get_or tokens i d)) others (sym (of_end _) ∙ e) (sym (of_opening _) ∙ f) g)
 
 -- it is neither
-pub behind-other : (limit room after : ℕ) (text : List ℕ) (tokens : List Piece) (i : ℕ) (d : Piece) (total : Option ℕ) (ends opens : Bool) → i < length tokens → TellsOfKind ends_part ends (get_or tokens i d) → ends ≡ false → TellsOfKind is_opening opens (get_or tokens i d) → opens ≡ false → after ≡ room
+pub past-other : (limit room after : ℕ) (text : List ℕ) (tokens : List Piece) (i : ℕ) (d : Piece) (total : Option ℕ) (ends opens : Bool) → i < length tokens → TestsKind ends_part ends (get_or tokens i d) → ends ≡ false → TestsKind is_opening opens (get_or tokens i d) → opens ≡ false → after ≡ room
     → deep_from limit room (map (piece_of text) (drop i tokens)) ≡ total → deep_from limit after (map (piece_of text) (drop (i + 1) tokens)) ≡ total
-behind-other limit room after text tokens i d total ends opens h tells e says f g =
-    further limit room after text tokens i d total h (λ others. passed limit room (piece_of text (get_or tokens i d)) others (sym (tells _) ∙ e) (sym (says _) ∙ f) ∙ ap (λ (n : ℕ). deep_from limit n others) (sym g))
+past-other limit room after text tokens i d total ends opens h of_end e of_opening f g =
+    further limit room after text tokens i d total h (λ others. passed limit room (piece_of text (get_or tokens i d)) others (sym (of_end _) ∙ e) (sym (of_opening _) ∙ f) ∙ ap (λ (n : ℕ). deep_from limit n others) (sym g))
 
 -- Up to the end of a part that has fewer tokens before it than there is room for openings nothing is found, and after it
 -- there is all the room again.
@@ -66,11 +66,11 @@ at_end limit (suc n) (suc room) (l ∷ ls) rest t is ends fits within = go (ends
 pub passed_over : (limit at n : ℕ) (text : List ℕ) (tokens : List Piece) (d : Piece) (total : Option ℕ) → n ≤ limit → at + n < length tokens → ends_part (piece_of text (get_or tokens (at + n) d)).kind ≡ true
     → deep_from limit limit (map (piece_of text) (drop at tokens)) ≡ total → deep_from limit limit (map (piece_of text) (drop (at + (n + 1)) tokens)) ≡ total
 passed_over limit at n text tokens d total fits below ends so_far =
-    let behind : drop n (map (piece_of text) (drop at tokens)) ≡ piece_of text (get_or tokens (at + n) d) ∷ map (piece_of text) (drop (at + n + 1) tokens) =
+    let rest : drop n (map (piece_of text) (drop at tokens)) ≡ piece_of text (get_or tokens (at + n) d) ∷ map (piece_of text) (drop (at + n + 1) tokens) =
     drop-map (piece_of text) n (drop at tokens) ∙ ap (map (piece_of text)) (drop-drop n at tokens ∙ drop_more tokens (at + n) d below) in
     let same : at + n + 1 ≡ at + (n + 1) = omega arith in
     ap (λ k. deep_from limit limit (map (piece_of text) (drop k tokens))) (sym same)
-    ∙ sym (at_end limit n limit (map (piece_of text) (drop at tokens)) _ (piece_of text (get_or tokens (at + n) d)) behind ends fits (omega arith))
+    ∙ sym (at_end limit n limit (map (piece_of text) (drop at tokens)) _ (piece_of text (get_or tokens (at + n) d)) rest ends fits (omega arith))
     ∙ so_far
 
 -- the same of the tokens from a place on

@@ -11,16 +11,16 @@ use Rattle.model_read.specs.declared.stop.Stop.TheVariants as stops
 use Rattle.model_read.specs.ReadCalls.{Returned, placed_at}
 
 -- Seen by view, the result is what was taken, or the place is that of the first token that the call left.
-abbrev pub Tells : {A B : Type 0} → (A → B) → List ℕ → Result A ParseError → List Lexeme → Parse B → Type 0
-Tells view text (Ok x) left parse = parse ≡ took (view x) left
-Tells view text (Err (errors.Unexpected at)) left parse = (parse ≡ stuck left) × (wrong_place text left ≡ at)
-Tells view text (Err (errors.TooDeep at)) left parse = ⊥
-Tells view text (Err errors.NoMemory) left parse = Unit {0}
+abbrev pub ReturnedPlaced : {A B : Type 0} → (A → B) → List ℕ → Result A ParseError → List Lexeme → Parse B → Type 0
+ReturnedPlaced view text (Ok x) left parse = parse ≡ took (view x) left
+ReturnedPlaced view text (Err (errors.Unexpected at)) left parse = (parse ≡ stuck left) × (wrong_place text left ≡ at)
+ReturnedPlaced view text (Err (errors.TooDeep at)) left parse = ⊥
+ReturnedPlaced view text (Err errors.NoMemory) left parse = Unit {0}
 
-tells_at : {A B : Type 0} (view : A → B) (text : List ℕ) (read : Result A Stop) (left : List Lexeme) (parse : Parse B) → Returned view read left parse → Tells view text (placed_at (wrong_place text left) read) left parse
-tells_at view text (Ok x) left parse e = e
-tells_at view text (Err stops.Unexpected) left parse e = (e refl, refl)
-tells_at view text (Err stops.NoMemory) left parse e = tt
+returned_at : {A B : Type 0} (view : A → B) (text : List ℕ) (read : Result A Stop) (left : List Lexeme) (parse : Parse B) → Returned view read left parse → ReturnedPlaced view text (placed_at (wrong_place text left) read) left parse
+returned_at view text (Ok x) left parse e = e
+returned_at view text (Err stops.Unexpected) left parse e = (e refl, refl)
+returned_at view text (Err stops.NoMemory) left parse e = tt
 
-pub placed-names : {A B : Type 0} (view : A → B) (text : List ℕ) (read : Result A Stop) (left : List Lexeme) (parse : Parse B) (result : Result A ParseError) → result ≡ placed_at (wrong_place text left) read → Returned view read left parse → Tells view text result left parse
-placed-names view text read left parse result is e = subst (λ r. Tells view text r left parse) (sym is) (tells_at view text read left parse e)
+pub placed-names : {A B : Type 0} (view : A → B) (text : List ℕ) (read : Result A Stop) (left : List Lexeme) (parse : Parse B) (result : Result A ParseError) → result ≡ placed_at (wrong_place text left) read → Returned view read left parse → ReturnedPlaced view text result left parse
+placed-names view text read left parse result is e = subst (λ r. ReturnedPlaced view text r left parse) (sym is) (returned_at view text read left parse e)

@@ -20,7 +20,7 @@ use Rattle.text_laws.proofs.Formats.OneTokenDecides.{text-fine}
 use Rattle.model_read.proofs.PiecesFrom.{cut-is_dropped}
 use Rattle.model_lex.specs.declared.parse_error.ParseError.{ParseError}
 use Rattle.model_lex.specs.declared.parse_error.ParseError.TheVariants as errors
-use Rattle.model_read.proofs.PlacedReads.{Tells}
+use Rattle.model_read.proofs.PlacedReads.{ReturnedPlaced}
 
 -- ---- openings
 
@@ -32,17 +32,17 @@ deep-place {A} limit tokens found place at e f g = sym e ∙ f ∙ ap Some (same
 
 -- ---- all tokens
 
-pub whole-ok : (text : List ℕ) (tokens left : List Lexeme) (limit : ℕ) (r : Result RawModel ParseError) → Tells written_model text r left (text_read tokens) → HasFewOpenings limit tokens → IfOk r (λ m. IsText tokens (written_model m) × HasFewOpenings limit tokens)
+pub whole-ok : (text : List ℕ) (tokens left : List Lexeme) (limit : ℕ) (r : Result RawModel ParseError) → ReturnedPlaced written_model text r left (text_read tokens) → HasFewOpenings limit tokens → IfOk r (λ m. IsText tokens (written_model m) × HasFewOpenings limit tokens)
 whole-ok text tokens left limit (Ok m) g few = (whole-is_spelled tokens (written_model m) left g, few)
 whole-ok text tokens left limit (Err e) g few = tt
 
-pub whole-unexpected : (text : List ℕ) (tokens left : List Lexeme) (r : Result RawModel ParseError) (at : ℕ) → Tells written_model text r left (text_read tokens) → r ≡ Err (errors.Unexpected at) → IsUnexpectedAt text tokens at
+pub whole-unexpected : (text : List ℕ) (tokens left : List Lexeme) (r : Result RawModel ParseError) (at : ℕ) → ReturnedPlaced written_model text r left (text_read tokens) → r ≡ Err (errors.Unexpected at) → IsUnexpectedAt text tokens at
 whole-unexpected text tokens left r at g e =
-    let h : Tells written_model text (Err (errors.Unexpected at)) left (text_read tokens) = subst (λ (q : Result RawModel ParseError). Tells written_model text q left (text_read tokens)) e g in
+    let h : ReturnedPlaced written_model text (Err (errors.Unexpected at)) left (text_read tokens) = subst (λ (q : Result RawModel ParseError). ReturnedPlaced written_model text q left (text_read tokens)) e g in
     subst (λ (n : ℕ). IsUnexpectedAt text tokens n) h.1 (refused-is_unexpected text tokens left h.0)
 
-pub never_deep : (text : List ℕ) (tokens left : List Lexeme) (r : Result RawModel ParseError) (at : ℕ) → Tells written_model text r left (text_read tokens) → r ≡ Err (errors.TooDeep at) → ⊥
-never_deep text tokens left r at g e = subst (λ (q : Result RawModel ParseError). Tells written_model text q left (text_read tokens)) e g
+pub never_deep : (text : List ℕ) (tokens left : List Lexeme) (r : Result RawModel ParseError) (at : ℕ) → ReturnedPlaced written_model text r left (text_read tokens) → r ≡ Err (errors.TooDeep at) → ⊥
+never_deep text tokens left r at g e = subst (λ (q : Result RawModel ParseError). ReturnedPlaced written_model text q left (text_read tokens)) e g
 
 -- ---- a front
 
@@ -86,11 +86,11 @@ same_place text (t ∷ rest) = refl
 
 -- where the reader is stuck, so is the front
 pub front-unexpected : (text : List ℕ) (tokens rest : List Lexeme) (at : ℕ) → (text_and_rest tokens ≡ stuck rest) × (wrong_place text rest ≡ at) → IsUnexpectedAt text (front_to_end tokens) at
-front-unexpected text tokens rest at (e, told) = record {
+front-unexpected text tokens rest at (e, at_rest) = record {
   none = no_front tokens rest e;
   rest = front_to_end rest;
   wrong = wrong-in_front tokens rest (no_front tokens rest e) (stuck-is_wrong text_format text-fine tokens rest e);
-  at_rest = same_place text rest ∙ told;
+  at_rest = same_place text rest ∙ at_rest;
 }
 
 -- ---- what is counted of the front
@@ -107,8 +107,8 @@ same-error {B} r x e y f g h = sym g ∙ one (sym f ∙ h)
     one : ◌≡◌ {A = Result B ParseError} (Err x) (Err y) → x ≡ y
     one p = cc
 
-pub error-unexpected : (text : List ℕ) (tokens left : List Lexeme) (e : ParseError) (at : ℕ) → Tells written_model text (Err e) left (text_and_rest tokens) → e ≡ errors.Unexpected at → IsUnexpectedAt text (front_to_end tokens) at
-error-unexpected text tokens left e at g f = front-unexpected text tokens left at (subst (λ (x : ParseError). Tells written_model text (Err x) left (text_and_rest tokens)) f g)
+pub error-unexpected : (text : List ℕ) (tokens left : List Lexeme) (e : ParseError) (at : ℕ) → ReturnedPlaced written_model text (Err e) left (text_and_rest tokens) → e ≡ errors.Unexpected at → IsUnexpectedAt text (front_to_end tokens) at
+error-unexpected text tokens left e at g f = front-unexpected text tokens left at (subst (λ (x : ParseError). ReturnedPlaced written_model text (Err x) left (text_and_rest tokens)) f g)
 
-pub error-never_deep : (text : List ℕ) (tokens left : List Lexeme) (e : ParseError) (at : ℕ) → Tells written_model text (Err e) left (text_and_rest tokens) → e ≡ errors.TooDeep at → ⊥
-error-never_deep text tokens left e at g f = subst (λ (x : ParseError). Tells written_model text (Err x) left (text_and_rest tokens)) f g
+pub error-never_deep : (text : List ℕ) (tokens left : List Lexeme) (e : ParseError) (at : ℕ) → ReturnedPlaced written_model text (Err e) left (text_and_rest tokens) → e ≡ errors.TooDeep at → ⊥
+error-never_deep text tokens left e at g f = subst (λ (x : ParseError). ReturnedPlaced written_model text (Err x) left (text_and_rest tokens)) f g

@@ -11,7 +11,7 @@ ghost use Rattle.text_laws.specs.FirstTokens.{begins_as};
 ghost use Rattle.text_laws.specs.FormatReader.{took, stuck, whole_read};
 ghost use Rattle.text_laws.specs.LanguageReader.{language_reader};
 ghost use Rattle.model_read.specs.ReadCalls.{Returned};
-ghost use Rattle.text_laws.specs.Ladder.{infix_at, at_levels, behind};
+ghost use Rattle.text_laws.specs.Ladder.{infix_at, at_levels, after_operator};
 ghost use Rattle.model_read.specs.Infixes.{infix_of};
 ghost use Rattle.model_read.specs.Inner.PieceSorts.{sort_of_kind, of_kind};
 ghost use Rattle.model_read.specs.Spelled.{spelled_name, digits_written};
@@ -277,7 +277,8 @@ impl<'t> Cursor<'t> {
     /// Takes the operator between two operands that comes next, if its level is `least` or higher, and below `under`.
     pub fn infix(&mut self, least: usize, under: usize) -> Option<Infix>
         ensures takes { option_map infix_of result ≡ at_levels least under (infix_at self.old) }
-        ensures leaves { self.new ≡ behind (at_levels least under (infix_at self.old)) self.old }
+        ensures leaves { self.new
+            ≡ after_operator (at_levels least under (infix_at self.old)) self.old }
         ensures below { IfSome result (λ i. i.level + 1 ≤ under) }
         ensures shorter { IfSome result (λ i. length self.new + 1 ≤ length self.old) }
         ensures no_longer { length self.new ≤ length self.old }

@@ -15,14 +15,14 @@ use Rattle.text_laws.specs.LanguageReader.{level_lookahead, language_reader}
 use Rattle.text_laws.proofs.Formats.RuleLaws.{rule-is}
 use Rattle.text_laws.proofs.Formats.OneTokenDecides.{levels-fine}
 use Rattle.text_laws.specs.FirstTokens.{begins_as}
-use Rattle.text_laws.specs.Ladder.{operand_level, climb, infix_at, at_levels, behind}
+use Rattle.text_laws.specs.Ladder.{operand_level, climb, infix_at, at_levels, after_operator}
 use Rattle.text_laws.proofs.OperandLevels.{from-not, from-unary}
 use Rattle.one_pass.specs.Inner.ReadOperands.{first_operand, IsOperand, ReadOperand, OperandTaken, ClimbsFrom, ClimbsOn}
 
 -- An operator that was taken, or none, of the levels from the least one up to the one below `under`, and what is left of the tokens after it.
 pub record IsTaken (under least : ℕ) (taken : Option (ℕ × graph.Operator)) (before left : List Lexeme) : Type 0 where
   pub takes : taken ≡ at_levels least under (infix_at before)
-  pub leaves : left ≡ behind (at_levels least under (infix_at before)) before
+  pub leaves : left ≡ after_operator (at_levels least under (infix_at before)) before
 
 -- for any expression before the operator that was taken, the rest of the operators goes on with it
 pub record ClimbedTo (means : List ℕ → Option Meaning) (under : ℕ) (whole : Parse WrittenExpression) (taken : Option (ℕ × graph.Operator)) (left : List Lexeme) (y : graph.Expression) (kind : Option Kind) : Type 0 where
@@ -64,6 +64,6 @@ module _ (means : List ℕ → Option Meaning) where
 
   -- an operand, and after it all that comes after the operator that was taken
   pub goes-on : {A : Type 0} (under : ℕ) (first : ℕ × graph.Operator) (left after : List Lexeme) (r : Result A NotRead) (x : graph.Expression) (kind : Option Kind) (y : graph.Expression) (kind' : Option Kind) (least : ℕ) (before : List Lexeme)
-      → Some first ≡ at_levels least under (infix_at before) → left ≡ behind (at_levels least under (infix_at before)) before → IfOk r (λ u. ClimbsOn means under first left after x kind y kind') → IfOk r (λ u. ClimbsFrom means under least before after x kind y kind')
+      → Some first ≡ at_levels least under (infix_at before) → left ≡ after_operator (at_levels least under (infix_at before)) before → IfOk r (λ u. ClimbsOn means under first left after x kind y kind') → IfOk r (λ u. ClimbsFrom means under least before after x kind y kind')
   goes-on under first left after (Ok u) x kind y kind' least before takes leaves goes = goes least before takes leaves
   goes-on under first left after (Err e) x kind y kind' least before takes leaves goes = tt

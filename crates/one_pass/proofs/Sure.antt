@@ -5,5 +5,5 @@ use Rattle.model_core.specs.Static.FaultOrder.{StaticFault}
 use Rattle.model_core.specs.Static.Meanings.{Meaning}
 use Rattle.static_laws.specs.Checked.{NumberedAs, CheckedPart}
 
-pub checked_surely : {A : Type 0} (means : List ℕ → Option Meaning) (told : Option StaticFault) (faults : List StaticFault) (number : Declared → Option A) (part : A) → faults ≡ [] → NumberedAs means number part → CheckedPart means told told faults number part
-checked_surely means told faults number part none numbers = record { told = rw none refl; unbroken = λ e. numbers }
+pub checked_surely : {A : Type 0} (means : List ℕ → Option Meaning) (before : Option StaticFault) (faults : List StaticFault) (number : Declared → Option A) (part : A) → faults ≡ [] → NumberedAs means number part → CheckedPart means before before faults number part
+checked_surely means before faults number part none numbers = record { earliest = rw none refl; unbroken = λ e. numbers }

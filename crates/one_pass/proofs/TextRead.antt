@@ -23,8 +23,8 @@ use Rattle.model_read.specs.Beginnings.{with_vertices}
 use Rattle.static_laws.specs.Checked.{Checked, CheckedPart, CheckedPlain}
 use Rattle.static_laws.specs.DeclaredFaults.{faults_of_declared}
 use Rattle.static_laws.specs.FitsVersion.{FitsVersion}
-use Rattle.static_laws.proofs.ToldFaults.{none_told}
-use Rattle.static_laws.proofs.WholeModel.{model_checked, all_told, is_accepted}
+use Rattle.static_laws.proofs.EarliestFaults.{earliest_fault-none}
+use Rattle.static_laws.proofs.WholeModel.{model_checked, first_fault-in_turn, is_accepted}
 use Rattle.static_laws.proofs.StaticTwins.Twins.{both_empty}
 use Rattle.static_laws.proofs.StaticTwins.ModelTwin.{parts_kept}
 use Rattle.static_laws.proofs.StaticTwins.VersionTwin.{version_twin}
@@ -60,13 +60,13 @@ HasFewCells g = sum_by (λ (v : graph.Variable). v.size) g.variables ≤ CELLS_M
 -- where the parts of a model that the version can write have no fault, the whole has none
 version_kept : (m : WrittenModel) (g : EventGraph) → Checked None None (faults_of_parts m) (numbered m ≡ Some g) → FitsVersion m.version g → HasFewCells g → Checked None None (faults_of_parts m ++ version_faults m) (numbered m ≡ Some g)
 version_kept m g checked fits few =
-    let none = none_told (faults_of_parts m) (sym checked.told) in
+    let none = earliest_fault-none (faults_of_parts m) (sym checked.earliest) in
     let is = checked.unbroken none in
     let (h, is_h, keeps, by_kind) = parts_kept m none in
     let same : h ≡ g = same_Some h g (sym is_h ∙ is) in
     let version = (version_twin m g is (subst KeepsParts same keeps) by_kind).1 (fits, few) in
     record {
-      told = sym (ap (earliest_fault None) (both_empty (faults_of_parts m) (version_faults m) none version));
+      earliest = sym (ap (earliest_fault None) (both_empty (faults_of_parts m) (version_faults m) none version));
       unbroken = λ n. is;
     }
 
@@ -74,5 +74,5 @@ version_kept m g checked fits few =
 pub model_accepted : (m : WrittenModel) (g : EventGraph) (t1 t2 : Option StaticFault) → Checked None t1 (faults_of_parts m) (numbered m ≡ Some g)
     → FitsVersion m.version g → HasFewCells g
     → (t1 ≡ None → t2 ≡ earliest_fault None (model_too_long TEXT_MAX (canonical g) m.end_at)) → ((f : StaticFault) → t1 ≡ Some f → t2 ≡ t1) → t2 ≡ None → Accepted m g
-model_accepted m g None t2 checked fits few none some told = is_accepted m g checked.unbroken (sym (all_told m g None t2 (version_kept m g checked fits few) none some) ∙ told)
-model_accepted m g (Some f) t2 checked fits few none some told = let no : Some f ≡ None = sym (some f refl) ∙ told in cc
+model_accepted m g None t2 checked fits few none some accepted = is_accepted m g checked.unbroken (sym (first_fault-in_turn m g None t2 (version_kept m g checked fits few) none some) ∙ accepted)
+model_accepted m g (Some f) t2 checked fits few none some accepted = let no : Some f ≡ None = sym (some f refl) ∙ accepted in cc

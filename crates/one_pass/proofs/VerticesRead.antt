@@ -22,23 +22,23 @@ use Rattle.model_read.specs.Beginnings.{with_body, vertex_beginning}
 use Rattle.text_laws.specs.SomeTokens.{vertex-some}
 use Rattle.static_laws.specs.Checked.{NumberedAs, CheckedPart}
 use Rattle.model_core.proofs.EmptyLists.{left_empty, right_empty}
-use Rattle.static_laws.proofs.ToldFaults.{none_told}
-use Rattle.static_laws.proofs.Checks.{told_both}
+use Rattle.static_laws.proofs.EarliestFaults.{earliest_fault-none}
+use Rattle.static_laws.proofs.Checks.{earliest_in_turn}
 use Rattle.static_laws.proofs.VertexParts.{vertex_checked}
 use Rattle.one_pass.specs.Inner.ReadParts.{ReadParts, ReadBody, ReadVertex, ReadVertices, BeginAlike, AllBeginAlike}
 use Rattle.one_pass.proofs.Sure.{checked_surely}
 use Rattle.one_pass.proofs.WholeReads.{vertex-read, some-read}
 
 -- a list within its limit has no fault
-few-told : {W : Type 0} (limit : ℕ) (at : W → ℕ) (ws : List W) (told : Option StaticFault) → length ws ≤ limit → told ≡ earliest_fault told (too_many limit (map at ws))
-few-told limit at ws told few =
+few-unchanged : {W : Type 0} (limit : ℕ) (at : W → ℕ) (ws : List W) (before : Option StaticFault) → length ws ≤ limit → before ≡ earliest_fault before (too_many limit (map at ws))
+few-unchanged limit at ws before few =
     let size = length-map ws at in
     rw (too_many, slice_get_past (map at ws) limit (omega arith)) refl
 
 -- a list of checked parts in which no fault was found has none
-told_nothing : (faults gs : List StaticFault) (t1 t2 : Option StaticFault) → t1 ≡ earliest_fault None faults → t2 ≡ earliest_fault t1 gs → t2 ≡ None → (faults ≡ []) × (gs ≡ [])
-told_nothing faults gs t1 t2 e f g =
-    let all : faults ++ gs ≡ [] = none_told (faults ++ gs) (sym (told_both None t1 t2 faults gs e f) ∙ g) in
+nothing_found : (faults gs : List StaticFault) (t1 t2 : Option StaticFault) → t1 ≡ earliest_fault None faults → t2 ≡ earliest_fault t1 gs → t2 ≡ None → (faults ≡ []) × (gs ≡ [])
+nothing_found faults gs t1 t2 e f g =
+    let all : faults ++ gs ≡ [] = earliest_fault-none (faults ++ gs) (sym (earliest_in_turn None t1 t2 faults gs e f) ∙ g) in
     (left_empty faults gs all, right_empty faults gs all)
 
 module _ (means : List ℕ → Option Meaning) where
@@ -46,8 +46,8 @@ module _ (means : List ℕ → Option Meaning) where
   pub begun_surely : (v : WrittenVertex) (t1 t2 : Option StaticFault) (ps : List ℕ) → t1 ≡ earliest_fault None (name_too_long v.name)
       → CheckedPart means t1 t2 (parameters_faults means [] (written_items v.parameters)) (λ d. each_numbered (numbering.numbered_parameter d) (written_items v.parameters)) ps → t2 ≡ None
       → (name_too_long v.name ≡ []) × (parameters_faults means [] (written_items v.parameters) ≡ []) × NumberedAs means (λ d. each_numbered (numbering.numbered_parameter d) (written_items v.parameters)) ps
-  begun_surely v t1 t2 ps named params told =
-      let p = told_nothing (name_too_long v.name) (parameters_faults means [] (written_items v.parameters)) t1 t2 named params.told told in
+  begun_surely v t1 t2 ps named params none =
+      let p = nothing_found (name_too_long v.name) (parameters_faults means [] (written_items v.parameters)) t1 t2 named params.earliest none in
       (p.0, p.1, params.unbroken p.1)
 
 module _ (means : List ℕ → Option Meaning) (taken : List (List (Option Kind))) where
@@ -66,11 +66,11 @@ module _ (means : List ℕ → Option Meaning) (taken : List (List (Option Kind)
       let checked : CheckedPart means None None (vertex_faults means taken whole) (λ d. numbering.vertex d whole) (record { name = v.name.name; parameters = ps; changes = xs; edges = ys })
       = vertex_checked means taken None None None None None None None whole ps xs ys (rw named refl)
       (checked_surely means None (parameters_faults means [] (written_items v.parameters)) (λ d. each_numbered (numbering.numbered_parameter d) (written_items v.parameters)) ps unbroken numbers)
-      (few-told CHANGES_MAX change_place changes.written None (subst (λ n. n ≤ CHANGES_MAX) (sym changes.counted) body.some))
+      (few-unchanged CHANGES_MAX change_place changes.written None (subst (λ n. n ≤ CHANGES_MAX) (sym changes.counted) body.some))
       (checked_surely means None (flat_map (change_faults means) changes.written) (λ d. each_numbered (numbering.change d) changes.written) xs changes.unbroken changes.numbers)
-      (few-told EDGES_MAX (λ (e : WrittenEdge). e.at) edges.written None (subst (λ n. n ≤ EDGES_MAX) (sym edges.counted) body.few))
+      (few-unchanged EDGES_MAX (λ (e : WrittenEdge). e.at) edges.written None (subst (λ n. n ≤ EDGES_MAX) (sym edges.counted) body.few))
       (checked_surely means None (flat_map (edge_faults means taken) edges.written) (λ d. each_numbered (numbering.edge d) edges.written) ys edges.unbroken edges.numbers) in
-      let none : vertex_faults means taken whole ≡ [] = none_told (vertex_faults means taken whole) (sym checked.told) in
+      let none : vertex_faults means taken whole ≡ [] = earliest_fault-none (vertex_faults means taken whole) (sym checked.earliest) in
       record {
         part = record { written = whole; read = vertex-read v changes.written edges.written body.end_at before between body.between body.last after begun changes.read edges.read body.closed; unbroken = none; numbers = checked.unbroken none };
         alike = record { at = alike.at; name = alike.name; parameters = alike.parameters };

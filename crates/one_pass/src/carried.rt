@@ -62,9 +62,9 @@ fn given(
 fn target(names: &Names, name: Spelling<'_>) -> Result<usize, NotRead>
     ensures { IfOk result (λ k. IsVertex (meaning_of names.now) (spelled_name name.entry) k) }
 {
-    let mut told = FirstFault::new();
-    let place = spelled_vertex(names, name.bytes, name.at, &mut told);
-    match (told.fault(), place) {
+    let mut fault = FirstFault::new();
+    let place = spelled_vertex(names, name.bytes, name.at, &mut fault);
+    match (fault.found(), place) {
         (None, Some(place)) => Ok(place),
         _ => Err(NotRead::Unsure),
     }

@@ -123,9 +123,9 @@ fn checked(names: &Names, raw: &RawSource) -> Result<(u8, Choice), NotRead>
     ensures { IfOk result
         (λ s. IsSource (meaning_of names.now) (written_source raw.now) s.0 (choice_of s.1)) }
 {
-    let mut told = FirstFault::new();
-    let source = sig_types::source(names, &raw.stream, &raw.choice, &mut told);
-    refuse_fault(&told)?;
+    let mut fault = FirstFault::new();
+    let source = sig_types::source(names, &raw.stream, &raw.choice, &mut fault);
+    refuse_fault(&fault)?;
     Ok(source)
 }
 

@@ -66,9 +66,9 @@ fn within(raw: &RawNumber) -> Result<u8, NotRead>
     ensures unbroken { OnOk result (priority_faults (written_number raw.now) ≡ []) }
     ensures numbers { IfOk result (λ p. natural (written_number raw.now) ≡ Some p) }
 {
-    let mut told = FirstFault::new();
-    let priority = bounded(raw, 1, 255, StaticKind::PriorityOutside, &mut told);
-    refuse_fault(&told)?;
+    let mut fault = FirstFault::new();
+    let priority = bounded(raw, 1, 255, StaticKind::PriorityOutside, &mut fault);
+    refuse_fault(&fault)?;
     Ok(priority as u8)
 }
 
@@ -170,9 +170,9 @@ fn checked(
         (λ e. NumberedAs (meaning_of names.now) (λ d. numbering.edge d (written_edge raw.now))
         (edge_of e)) }
 {
-    let mut told = FirstFault::new();
-    let edge = HeldValue::of(sig_types::edge(alloc, names, taken, raw, &mut told)?);
-    refuse_fault(&told)?;
+    let mut fault = FirstFault::new();
+    let edge = HeldValue::of(sig_types::edge(alloc, names, taken, raw, &mut fault)?);
+    refuse_fault(&fault)?;
     Ok(edge.free())
 }
 

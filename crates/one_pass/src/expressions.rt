@@ -104,9 +104,9 @@ pub(crate) fn known(
         (λ v. v.kind
         ≡ kind_in_role (variable_role is_array) (meaning_of names.now name.entry.bytes.now)) }
 {
-    let mut told = FirstFault::new();
-    let var = spelled_variable(names, is_array, name.bytes, name.at, &mut told);
-    refuse_fault(&told)?;
+    let mut fault = FirstFault::new();
+    let var = spelled_variable(names, is_array, name.bytes, name.at, &mut fault);
+    refuse_fault(&fault)?;
     Ok(var)
 }
 

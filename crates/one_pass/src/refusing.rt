@@ -6,11 +6,11 @@ use crate::not_read::NotRead;
 use sig_types::FirstFault;
 
 /// Gives up where a fault was found.
-pub(crate) fn refuse_fault(told: &FirstFault) -> Result<(), NotRead>
-    ensures untold { OnOk result (told.now ≡ None) }
-    ensures told { OnErr result (told.now ≢ None) }
+pub(crate) fn refuse_fault(fault: &FirstFault) -> Result<(), NotRead>
+    ensures none_found { OnOk result (fault.now ≡ None) }
+    ensures found { OnErr result (fault.now ≢ None) }
 {
-    match told.fault() {
+    match fault.found() {
         None => Ok(()),
         Some(_) => Err(NotRead::Unsure),
     }

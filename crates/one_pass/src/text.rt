@@ -51,12 +51,12 @@ fn among_names(
     cursor: &mut Cursor<'_>,
     names: &Names,
     begun: RawModel,
-    told: &mut FirstFault,
+    fault: &mut FirstFault,
 ) -> Result<Model, NotRead>
     ensures { IfOk result (λ model. meaning_of names.now ≡ model_meaning (written_model begun)
         → (start : Option StaticFault)
-        → told.old ≡ earliest_fault start (faults_of_declared (written_model begun))
-        → ReadVerticesAfter (written_model begun) cursor.old cursor.new start told.new
+        → fault.old ≡ earliest_fault start (faults_of_declared (written_model begun))
+        → ReadVerticesAfter (written_model begun) cursor.old cursor.new start fault.new
         (graph_of model)) }
 {
     let lists = check_lists(
@@ -65,7 +65,7 @@ fn among_names(
         begun.vars,
         begun.tables,
         items(&begun.watch),
-        told,
+        fault,
     )?;
     let vertices = expected_vertices(alloc, cursor, names, begun.vertices.as_slice())?;
     Ok(Model {
@@ -82,14 +82,14 @@ fn behind(
     alloc: Global,
     cursor: &mut Cursor<'_>,
     begun: RawModel,
-    told: &mut FirstFault,
+    fault: &mut FirstFault,
 ) -> Result<Model, NotRead>
     ensures { IfOk result
-        (λ model. ReadVerticesAfter (written_model begun) cursor.old cursor.new told.old told.new
+        (λ model. ReadVerticesAfter (written_model begun) cursor.old cursor.new fault.old fault.new
         (graph_of model)) }
 {
-    let names = declared(alloc, &begun, told)?;
-    among_names(alloc, cursor, &names, begun, told)
+    let names = declared(alloc, &begun, fault)?;
+    among_names(alloc, cursor, &names, begun, fault)
 }
 
 /// Reads the declarations of a model whose vertices begin so.
@@ -124,17 +124,17 @@ fn text(
     alloc: Global,
     cursor: &mut Cursor<'_>,
     expected: List<RawVertex>,
-    told: &mut FirstFault,
+    fault: &mut FirstFault,
 ) -> Result<Model, NotRead>
-    requires { told.old ≡ None }
-    ensures { IfOk result (λ model. ReadText cursor.old told.new (graph_of model)) }
+    requires { fault.old ≡ None }
+    ensures { IfOk result (λ model. ReadText cursor.old fault.new (graph_of model)) }
 {
     let begun = beginning(alloc, cursor, expected)?;
     let version = begun.version;
-    let model = behind(alloc, cursor, begun, told)?;
+    let model = behind(alloc, cursor, begun, fault)?;
     let end_at = ending(cursor)?;
     refuse_version(version, &model)?;
-    report_long_text(&model, end_at, told);
+    report_long_text(&model, end_at, fault);
     Ok(model)
 }
 
@@ -150,8 +150,8 @@ pub fn read_model(alloc: Global, pieces: &Pieces<'_>) -> Result<Model, NotRead>
     }
     let expected = beginnings(alloc, pieces.text, list)?;
     let mut cursor = Cursor::new(pieces.text, list);
-    let mut told = FirstFault::new();
-    let model = text(alloc, &mut cursor, expected, &mut told)?;
-    refuse_fault(&told)?;
+    let mut fault = FirstFault::new();
+    let model = text(alloc, &mut cursor, expected, &mut fault)?;
+    refuse_fault(&fault)?;
     Ok(model)
 }

@@ -41,10 +41,10 @@ fn known_parameters(
     if !begin_alike(begun, expected) {
         return Err(NotRead::Unsure);
     }
-    let mut told = FirstFault::new();
-    report_long_name(&begun.name, &mut told);
-    let params = parameters(alloc, names, items(&begun.params), &mut told)?;
-    refuse_fault(&told)?;
+    let mut fault = FirstFault::new();
+    report_long_name(&begun.name, &mut fault);
+    let params = parameters(alloc, names, items(&begun.params), &mut fault)?;
+    refuse_fault(&fault)?;
     Ok(params)
 }
 

@@ -17,7 +17,7 @@ use Rattle.model_core.specs.Static.PartFaults.{if_written, use_faults, operand_f
 use Rattle.static_laws.specs.Checked.{Checked, NumberedAs, CheckedPart, CheckedPlain}
 use Rattle.static_laws.specs.Roles.{variable_role}
 use Rattle.sig_types.specs.Inner.Stored.{stored_faults}
-use Rattle.static_laws.proofs.Checks.{told_both, both, made, before, behind, two_numbered, three_numbered}
+use Rattle.static_laws.proofs.Checks.{earliest_in_turn, both, made, before, after_faults, two_numbered, three_numbered}
 use Rattle.std.proofs.lemmas.List.{append-nil}
 
 role_of_index : (o : Option WrittenExpression) → variable_role (is_some o) ≡ target_role o
@@ -64,7 +64,7 @@ module _ (means : List ℕ → Option Meaning) where
   set_checked t0 t1 t2 t3 at ts es x counted short c =
       let lists = value_count (length ts) (length es) at ++ too_many TARGETS_MAX (map (λ (t : WrittenTarget). t.at) ts) in
       rw (append_assoc lists (flat_map (target_faults means) ts) (values_faults means (map (target_kind means) ts) es))
-      (behind t0 lists (told_both t0 t1 t2 (value_count (length ts) (length es) at) (too_many TARGETS_MAX (map (λ (t : WrittenTarget). t.at) ts)) counted short) c)
+      (after_faults t0 lists (earliest_in_turn t0 t1 t2 (value_count (length ts) (length es) at) (too_many TARGETS_MAX (map (λ (t : WrittenTarget). t.at) ts)) counted short) c)
 
   pub draw_checked : (t0 t1 t2 t3 : Option StaticFault) (at : ℕ) (t : WrittenTarget) (s : WrittenNumber) (from : WrittenChoice) (x : graph.Location) (n : ℕ) (y : graph.Choice)
       → CheckedPart means t0 t1 (target_faults means t) (λ d. location d t) x

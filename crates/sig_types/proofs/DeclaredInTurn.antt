@@ -3,7 +3,7 @@ use Rattle.std.proofs.Common.{◌≡◌, List, [], ◌++◌, map, Option, refl, 
 use Rattle.model_core.specs.Static.FaultOrder.{StaticFault, earliest_fault}
 use Rattle.model_core.specs.Static.Meanings.{Declaration, declared_name, meaning_of}
 use Rattle.model_core.specs.Static.PartFaults.{repeated_names}
-use Rattle.static_laws.proofs.Checks.{told_both}
+use Rattle.static_laws.proofs.Checks.{earliest_in_turn}
 use Rattle.sig_types.specs.Inner.Redeclared.{redeclared}
 use Rattle.sig_types.proofs.MeaningsSoFar.{meaning_of-same, redeclared-same, redeclared-append, redeclared-repeated}
 
@@ -14,12 +14,12 @@ module _ (a b c n1 n2 n3 : List Declaration) (first : meaning_of n1 ≡ meaning_
   pub three_mean : meaning_of n3 ≡ meaning_of (n2 ++ c) → meaning_of n3 ≡ meaning_of (a ++ b ++ c)
   three_mean third = third ∙ meaning_of-same n2 (a ++ b) c c two_mean refl
 
-  pub three_told : (t0 t1 t2 t3 : Option StaticFault) → t1 ≡ earliest_fault t0 (redeclared [] a) → t2 ≡ earliest_fault t1 (redeclared n1 b) → t3 ≡ earliest_fault t2 (redeclared n2 c)
+  pub three_in_turn : (t0 t1 t2 t3 : Option StaticFault) → t1 ≡ earliest_fault t0 (redeclared [] a) → t2 ≡ earliest_fault t1 (redeclared n1 b) → t3 ≡ earliest_fault t2 (redeclared n2 c)
       → t3 ≡ earliest_fault t0 (repeated_names [] (map declared_name (a ++ b ++ c)))
-  three_told t0 t1 t2 t3 e f g =
+  three_in_turn t0 t1 t2 t3 e f g =
       let all : redeclared [] a ++ redeclared a b ++ redeclared (a ++ b) c ≡ repeated_names [] (map declared_name (a ++ b ++ c))
       = ap (λ fs. fs ++ redeclared (a ++ b) c) (sym (redeclared-append [] a b)) ∙ sym (redeclared-append [] (a ++ b) c) ∙ redeclared-repeated (a ++ b ++ c) in
-      told_both t0 t2 t3 (redeclared [] a ++ redeclared a b) (redeclared (a ++ b) c)
-      (told_both t0 t1 t2 (redeclared [] a) (redeclared a b) e (f ∙ ap (earliest_fault t1) (redeclared-same n1 a b first)))
+      earliest_in_turn t0 t2 t3 (redeclared [] a ++ redeclared a b) (redeclared (a ++ b) c)
+      (earliest_in_turn t0 t1 t2 (redeclared [] a) (redeclared a b) e (f ∙ ap (earliest_fault t1) (redeclared-same n1 a b first)))
       (g ∙ ap (earliest_fault t2) (redeclared-same n2 (a ++ b) c two_mean))
       ∙ ap (earliest_fault t0) all

@@ -12,7 +12,7 @@ use Rattle.model_core.specs.Static.FaultOrder.{StaticFault, earliest_fault, faul
 use Rattle.model_core.specs.Static.RuleTable.{duplicate_name}
 use Rattle.model_core.specs.Static.PartFaults.{repeated_names}
 use Rattle.sig_types.specs.Seen.{bytes_of}
-use Rattle.static_laws.proofs.Checks.{told_both}
+use Rattle.static_laws.proofs.Checks.{earliest_in_turn}
 use Rattle.std.proofs.lemmas.List.{append-nil}
 use Rattle.std.proofs.Math.Bool.{or-false, not-not}
 
@@ -58,10 +58,10 @@ pub repeat_turn : (t0 t1 t2 : Option StaticFault) (keys : List (List ℕ)) (seen
     → SameNames keys (names_before [] seen) → new ≡ not (list_any (same_bytes n.name) keys)
     → t1 ≡ earliest_fault t0 (repeated_names [] seen) → t2 ≡ earliest_fault t1 (fault_where (not new) rules.DuplicateName n.at)
     → t2 ≡ earliest_fault t0 (repeated_names [] (seen ++ n ∷ []))
-repeat_turn t0 t1 t2 keys seen n new same is told later =
+repeat_turn t0 t1 t2 keys seen n new same is so_far later =
     let found : not new ≡ list_any (same_bytes n.name) (names_before [] seen) = ap not is ∙ not-not (list_any (same_bytes n.name) keys) ∙ same n.name in
     rw (repeated_names-push [] seen n)
-    (told_both t0 t1 t2 (repeated_names [] seen) (duplicate_name (names_before [] seen) n) told (later ∙ ap (λ b. earliest_fault t1 (fault_where b rules.DuplicateName n.at)) found))
+    (earliest_in_turn t0 t1 t2 (repeated_names [] seen) (duplicate_name (names_before [] seen) n) so_far (later ∙ ap (λ b. earliest_fault t1 (fault_where b rules.DuplicateName n.at)) found))
 
 -- ---- names that a set has as its keys
 
@@ -74,13 +74,13 @@ module _ {K : Type 0} (items : K → List ℕ) where
   map-cond true keys k = refl
   map-cond false keys k = map_push items keys k
 
-  pub told_key : (t0 t1 t2 : Option StaticFault) (keys : List K) (key : List ℕ) (seen : List WrittenName) (n : WrittenName) (new : Bool) → key ≡ n.name
+  pub repeat_key : (t0 t1 t2 : Option StaticFault) (keys : List K) (key : List ℕ) (seen : List WrittenName) (n : WrittenName) (new : Bool) → key ≡ n.name
       → new ≡ not (list_any (λ j. pointwise nat_eq key (items j)) keys) → SameNames (map items keys) (names_before [] seen)
       → t1 ≡ earliest_fault t0 (repeated_names [] seen) → t2 ≡ earliest_fault t1 (fault_where (not new) rules.DuplicateName n.at)
       → t2 ≡ earliest_fault t0 (repeated_names [] (seen ++ n ∷ []))
-  told_key t0 t1 t2 keys key seen n new is added same told later =
+  repeat_key t0 t1 t2 keys key seen n new is added same so_far later =
       let new_is : new ≡ not (list_any (same_bytes n.name) (map items keys)) = added ∙ ap not (any-keys key keys ∙ ap (λ name. list_any (same_bytes name) (map items keys)) is) in
-      repeat_turn t0 t1 t2 (map items keys) seen n new same new_is told later
+      repeat_turn t0 t1 t2 (map items keys) seen n new same new_is so_far later
 
   pub known_key : (keys after : List K) (k : K) (seen : List WrittenName) (n : WrittenName) → items k ≡ n.name
       → after ≡ cond (list_any (λ j. pointwise nat_eq (items k) (items j)) keys) keys (keys ++ k ∷ []) → SameNames (map items keys) (names_before [] seen)
@@ -94,10 +94,10 @@ module _ {K : Type 0} (items : K → List ℕ) where
 
 -- ---- names that are looked for in the list itself
 
-same_behind : (earlier : List (List ℕ)) (ns : List WrittenName) (name : List ℕ) → list_any (same_bytes name) (names_before earlier ns) ≡ (list_any (same_bytes name) (map (λ (n : WrittenName). n.name) ns) || list_any (same_bytes name) earlier)
-same_behind earlier [] name = refl
-same_behind earlier (n ∷ ns) name =
-    same_behind (n.name ∷ earlier) ns name ∙ swap (list_any (same_bytes name) (map (λ (m : WrittenName). m.name) ns)) (same_bytes name n.name) (list_any (same_bytes name) earlier)
+same_after : (earlier : List (List ℕ)) (ns : List WrittenName) (name : List ℕ) → list_any (same_bytes name) (names_before earlier ns) ≡ (list_any (same_bytes name) (map (λ (n : WrittenName). n.name) ns) || list_any (same_bytes name) earlier)
+same_after earlier [] name = refl
+same_after earlier (n ∷ ns) name =
+    same_after (n.name ∷ earlier) ns name ∙ swap (list_any (same_bytes name) (map (λ (m : WrittenName). m.name) ns)) (same_bytes name n.name) (list_any (same_bytes name) earlier)
   where
     swap : (a b c : Bool) → (a || (b || c)) ≡ ((b || a) || c)
     swap true true c = refl
@@ -110,11 +110,11 @@ pub few_turn : (t0 t1 t2 : Option StaticFault) (seen : List WrittenName) (n : Wr
     → again ≡ list_any (same_bytes n.name) (map (λ (m : WrittenName). m.name) seen)
     → t1 ≡ earliest_fault t0 (repeated_names [] seen) → t2 ≡ earliest_fault t1 (fault_where again rules.DuplicateName n.at)
     → t2 ≡ earliest_fault t0 (repeated_names [] (seen ++ n ∷ []))
-few_turn t0 t1 t2 seen n again is told later =
+few_turn t0 t1 t2 seen n again is so_far later =
     let found : again ≡ list_any (same_bytes n.name) (names_before [] seen)
-    = is ∙ sym (same_behind [] seen n.name ∙ or-false (list_any (same_bytes n.name) (map (λ (m : WrittenName). m.name) seen))) in
+    = is ∙ sym (same_after [] seen n.name ∙ or-false (list_any (same_bytes n.name) (map (λ (m : WrittenName). m.name) seen))) in
     rw (repeated_names-push [] seen n)
-    (told_both t0 t1 t2 (repeated_names [] seen) (duplicate_name (names_before [] seen) n) told (later ∙ ap (λ b. earliest_fault t1 (fault_where b rules.DuplicateName n.at)) found))
+    (earliest_in_turn t0 t1 t2 (repeated_names [] seen) (duplicate_name (names_before [] seen) n) so_far (later ∙ ap (λ b. earliest_fault t1 (fault_where b rules.DuplicateName n.at)) found))
 
 pub names_seen : (raws : List RawName) → map bytes_of raws ≡ map (λ (m : WrittenName). m.name) (map written_name raws)
 names_seen [] = refl

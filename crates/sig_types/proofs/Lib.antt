@@ -1,7 +1,7 @@
 mod Lookups
 mod Operands
 mod TooMany
-mod ToldInTurn
+mod FaultsInTurn
 mod EarlierNames
 mod CarriedValues
 mod ChangeParts
@@ -10,4 +10,4 @@ mod VariableParts
 mod RowSums
 mod MeaningsSoFar
 mod DeclaredInTurn
-mod ToldError
+mod FirstFaultError

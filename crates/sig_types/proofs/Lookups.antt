@@ -70,8 +70,8 @@ restored (x ∷ xs) key w first e = put_back (pointwise nat_eq key.items x.0.ite
 -- ---- one more declaration, where the key is the name
 
 module _ (name : List ℕ) (key : Bytes ℕ) (entries : List (Bytes ℕ × Meaning)) (shown : List Declaration) (o : Option Meaning) (is : seen entries ≡ shown) (same : key.items ≡ name) (found : o ≡ lookup (λ (k : Bytes ℕ). pointwise nat_eq key.items k.items) entries) where
-  pub tells_new : is_none o ≡ is_none (meaning_of shown name)
-  tells_new = new_name key.items entries shown o is found ∙ ap (λ n. is_none (meaning_of shown n)) same
+  pub says_new : is_none o ≡ is_none (meaning_of shown name)
+  says_new = new_name key.items entries shown o is found ∙ ap (λ n. is_none (meaning_of shown n)) same
 
   pub puts_new : (w : Meaning) (after : List (Bytes ℕ × Meaning)) → o ≡ None → after ≡ insert_entry (λ (a b : Bytes ℕ). pointwise nat_eq a.items b.items) entries key w → seen after ≡ shown ++ declaration_of name (meaning_seen w) ∷ []
   puts_new w after none made =

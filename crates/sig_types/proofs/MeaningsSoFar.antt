@@ -13,7 +13,7 @@ use Rattle.model_core.specs.Static.Meanings.{Meaning, Declaration, declarations_
 use Rattle.model_core.specs.Static.PartFaults.{repeated_names}
 use Rattle.sig_types.specs.Inner.Redeclared.{redeclared}
 use Rattle.sig_types.specs.Seen.{declaration_of}
-use Rattle.static_laws.proofs.Checks.{told_both}
+use Rattle.static_laws.proofs.Checks.{earliest_in_turn}
 use Rattle.std.proofs.lemmas.List.{append-nil}
 
 abbrev or_else : Option Meaning → Option Meaning → Option Meaning
@@ -95,15 +95,15 @@ module _ {W : Type 0} (f : ℕ → W → Declaration) where
 
     pub report_turn : (at : ℕ) → (f i (w x)).name.at ≡ at → t1 ≡ earliest_fault t0 (redeclared start (declarations_from f 0 (map w (take i raws)))) → t2 ≡ earliest_fault t1 (fault_where (not added) rules.DuplicateName at)
         → t2 ≡ earliest_fault t0 (redeclared start (declarations_from f 0 (map w (take (i + 1) raws))))
-    report_turn at placed told later =
+    report_turn at placed so_far later =
         let ds = declarations_from f 0 (map w (take i raws)) in
         let d = f i (w x) in
         let known : not added ≡ is_some (meaning_of (start ++ ds) d.name.name) = not_none Meaning (meaning_of now name) added new ∙ ap (λ (m : List ℕ → Option Meaning). is_some (m name)) means ∙ ap (λ n. is_some (meaning_of (start ++ ds) n)) (sym named) in
         rw (declarations_turn w raws i x lt is, redeclared-push start ds d)
-        (told_both t0 t1 t2 (redeclared start ds) (fault_where (is_some (meaning_of (start ++ ds) d.name.name)) rules.DuplicateName d.name.at) told
+        (earliest_in_turn t0 t1 t2 (redeclared start ds) (fault_where (is_some (meaning_of (start ++ ds) d.name.name)) rules.DuplicateName d.name.at) so_far
         (later ∙ ap (λ b. earliest_fault t1 (fault_where b rules.DuplicateName at)) known ∙ ap (λ j. earliest_fault t1 (fault_where (is_some (meaning_of (start ++ ds) d.name.name)) rules.DuplicateName j)) (sym placed)))
 
--- ---- declared again, and standing earlier in the list of names
+-- ---- declared again, and earlier in the list of names
 
 known_or_new : (o : Option Meaning) (b c any : Bool) (w : Meaning) → b ≡ c → is_some o ≡ any → is_some (or_else o (cond b (Some w) None)) ≡ (c || any)
 known_or_new (Some v) true true any w e h = refl
@@ -122,14 +122,14 @@ declares_more ds names d h n =
     ap is_some (meaning_of-append ds (d ∷ []) n)
     ∙ known_or_new (meaning_of ds n) (same_bytes d.name.name n) (same_bytes n d.name.name) (list_any (same_bytes n) names) d.meaning (nat_list_eq_equiv.symm d.name.name n) (h n)
 
-repeated_behind : (earlier : List Declaration) (names : List (List ℕ)) → Declares earlier names → (ds : List Declaration) → redeclared earlier ds ≡ repeated_names names (map declared_name ds)
-repeated_behind earlier names h [] = refl
-repeated_behind earlier names h (d ∷ ds) =
+repeated_after : (earlier : List Declaration) (names : List (List ℕ)) → Declares earlier names → (ds : List Declaration) → redeclared earlier ds ≡ repeated_names names (map declared_name ds)
+repeated_after earlier names h [] = refl
+repeated_after earlier names h (d ∷ ds) =
     ap (λ b. fault_where b rules.DuplicateName d.name.at ++ redeclared (earlier ++ d ∷ []) ds) (h d.name.name)
-    ∙ ap (λ fs. fault_where (list_any (same_bytes d.name.name) names) rules.DuplicateName d.name.at ++ fs) (repeated_behind (earlier ++ d ∷ []) (d.name.name ∷ names) (declares_more earlier names d h) ds)
+    ∙ ap (λ fs. fault_where (list_any (same_bytes d.name.name) names) rules.DuplicateName d.name.at ++ fs) (repeated_after (earlier ++ d ∷ []) (d.name.name ∷ names) (declares_more earlier names d h) ds)
 
 pub redeclared-repeated : (ds : List Declaration) → redeclared [] ds ≡ repeated_names [] (map declared_name ds)
-redeclared-repeated ds = repeated_behind [] [] (λ n. refl) ds
+redeclared-repeated ds = repeated_after [] [] (λ n. refl) ds
 
 pub redeclared-append : (earlier ds es : List Declaration) → redeclared earlier (ds ++ es) ≡ redeclared earlier ds ++ redeclared (earlier ++ ds) es
 redeclared-append earlier [] es = ap (λ xs. redeclared xs es) (sym (append-nil earlier))

@@ -12,7 +12,7 @@ use Rattle.model_core.specs.Static.PartFaults.{if_written, size_faults, range_fa
 use Rattle.sig_types.specs.declared.variables.Range.{Range}
 use Rattle.static_laws.specs.Checked.{CheckedPlain}
 use Rattle.sig_types.specs.Inner.HeldAsDeclared.{initial_faults, numbered_range}
-use Rattle.static_laws.proofs.Checks.{both, made, before, behind}
+use Rattle.static_laws.proofs.Checks.{both, made, before, after_faults}
 
 bounds_first : (lo hi : WrittenSigned) (clip : Bool) (l : WrittenLiteral) → range_faults (written.RangeKind lo hi clip) l ≡ (literal_too_large lo ++ literal_too_large hi ++ empty_range lo hi) ++ initial_faults lo hi l
 bounds_first lo hi clip (written.TruthLiteral at b) = refl
@@ -49,4 +49,4 @@ pub variable_checked : (t0 t1 t2 t3 : Option StaticFault) (v : WrittenVariable) 
     → t1 ≡ earliest_fault t0 (name_too_long v.name) → CheckedPlain t1 t2 (if_written size_faults v.size) (size v.size) n
     → CheckedPlain t2 t3 (range_faults v.kind v.initial) (numbered_range v.kind v.initial) r
     → CheckedPlain t0 t3 (variable_faults v) (variable v) (sized v.name.name n r)
-variable_checked t0 t1 t2 t3 v n r named c d = made (λ h. by_range v v.kind n r h.0 h.1) (both (behind t0 (name_too_long v.name) named c) d)
+variable_checked t0 t1 t2 t3 v n r named c d = made (λ h. by_range v v.kind n r h.0 h.1) (both (after_faults t0 (name_too_long v.name) named c) d)

@@ -16,11 +16,11 @@ ghost use Rattle.static_laws.specs.Wanted.{wanted};
 ghost use Rattle.sig_types.specs.Inner.Stored.{stored_faults};
 
 use crate::expressions::operand;
+use crate::first_fault::FirstFault;
 use crate::kinds::{Typed, kinds_differ};
 use crate::names::Names;
 use crate::numbers::{bounded, literal, report_empty_range, report_wide_range};
 use crate::placed::report_too_many;
-use crate::told::FirstFault;
 use crate::uses::{table, variable};
 use model_core::{
     Change, Choice, Expr, Kind, RawChange, RawChoice, RawExpr, RawNumber, RawTarget, StaticKind,
@@ -34,10 +34,10 @@ fn index(
     alloc: Global,
     names: &Names,
     raw: &Option<RawExpr>,
-    told: &mut FirstFault,
+    fault: &mut FirstFault,
 ) -> Result<Option<Expr>, NoMemory>
     ensures { IfOk result
-        (λ i. CheckedPart (meaning_of names.now) told.old told.new
+        (λ i. CheckedPart (meaning_of names.now) fault.old fault.new
         (if_written (operand_faults (meaning_of names.now) (Some kinds.Range))
         (option_map written_expression raw.now))
         (λ d. written_or (λ e. option_map (λ x. Some x) (numbering.expression d e)) None
@@ -46,7 +46,7 @@ fn index(
     let Some(raw) = raw else {
         return Ok(None);
     };
-    let index = operand(alloc, names, Some(Kind::Range), raw, told)?;
+    let index = operand(alloc, names, Some(Kind::Range), raw, fault)?;
     Ok(Some(index.part))
 }
 
@@ -55,17 +55,17 @@ fn target(
     alloc: Global,
     names: &Names,
     raw: &RawTarget,
-    told: &mut FirstFault,
+    fault: &mut FirstFault,
 ) -> Result<Typed<Target>, NoMemory>
     ensures checked { IfOk result
-        (λ t. CheckedPart (meaning_of names.now) told.old told.new
+        (λ t. CheckedPart (meaning_of names.now) fault.old fault.new
         (target_faults (meaning_of names.now) (written_target raw.now))
         (λ d. numbering.location d (written_target raw.now)) (location_of t.part)) }
     ensures kind { IfOk result
         (λ t. t.kind ≡ target_kind (meaning_of names.now) (written_target raw.now)) }
 {
-    let var = variable(names, raw.index.is_some(), &raw.name, told);
-    let index = index(alloc, names, &raw.index, told)?;
+    let var = variable(names, raw.index.is_some(), &raw.name, fault);
+    let index = index(alloc, names, &raw.index, fault)?;
     Ok(Typed {
         part: Target {
             var: var.part,
@@ -87,10 +87,10 @@ fn all_targets(
     alloc: Global,
     names: &Names,
     raws: &[RawTarget],
-    told: &mut FirstFault,
+    fault: &mut FirstFault,
 ) -> Result<TypedTargets, NoMemory>
     ensures checked { IfOk result
-        (λ t. CheckedPart (meaning_of names.now) told.old told.new
+        (λ t. CheckedPart (meaning_of names.now) fault.old fault.new
         (flat_map (target_faults (meaning_of names.now)) (map written_target raws.now))
         (λ d. each_numbered (numbering.location d) (map written_target raws.now))
         (map location_of t.targets)) }
@@ -101,7 +101,7 @@ fn all_targets(
     let mut targets = Vec::with_capacity(alloc, raws.len())?;
     let mut kinds = Vec::with_capacity(alloc, raws.len())?;
     for raw in raws {
-        let typed = target(alloc, names, raw, told)?;
+        let typed = target(alloc, names, raw, fault)?;
         targets.push(typed.part)?;
         kinds.push(typed.kind)?;
     }
@@ -125,17 +125,17 @@ pub(crate) fn values(
     names: &Names,
     kinds: &[Option<Kind>],
     raws: &[RawExpr],
-    told: &mut FirstFault,
+    fault: &mut FirstFault,
 ) -> Result<List<Expr>, NoMemory>
     ensures { IfOk result
-        (λ es. CheckedPart (meaning_of names.now) told.old told.new
+        (λ es. CheckedPart (meaning_of names.now) fault.old fault.new
         (values_faults (meaning_of names.now) kinds.now (map written_expression raws.now))
         (λ d. each_numbered (numbering.expression d) (map written_expression raws.now))
         (map expression_of es)) }
 {
     let mut values = Vec::with_capacity(alloc, raws.len())?;
     for (i, raw) in raws.iter().enumerate() {
-        let typed = operand(alloc, names, wanted_at(kinds, i), raw, told)?;
+        let typed = operand(alloc, names, wanted_at(kinds, i), raw, fault)?;
         values.push(typed.part)?;
     }
     Ok(List::from_vec(values))
@@ -147,19 +147,19 @@ fn set_one(
     names: &Names,
     raw: &RawTarget,
     raws: &[RawExpr],
-    told: &mut FirstFault,
+    fault: &mut FirstFault,
 ) -> Result<Change, NoMemory>
     ensures { IfOk result
-        (λ c. CheckedPart (meaning_of names.now) told.old told.new
+        (λ c. CheckedPart (meaning_of names.now) fault.old fault.new
         (stored_faults (meaning_of names.now) (written_target raw.now ∷ [])
         (map written_expression raws.now))
         (λ d. numbering.change d
         (written.Set 0 (written_target raw.now ∷ []) (map written_expression raws.now)))
         (change_of c)) }
 {
-    let typed = target(alloc, names, raw, told)?;
+    let typed = target(alloc, names, raw, fault)?;
     let targets = List::of_one(alloc, typed.part)?;
-    let values = values(alloc, names, &[typed.kind], raws, told)?;
+    let values = values(alloc, names, &[typed.kind], raws, fault)?;
     Ok(Change::Set { targets, values })
 }
 
@@ -169,18 +169,18 @@ fn set_all(
     names: &Names,
     targets: &[RawTarget],
     raws: &[RawExpr],
-    told: &mut FirstFault,
+    fault: &mut FirstFault,
 ) -> Result<Change, NoMemory>
     ensures { IfOk result
-        (λ c. CheckedPart (meaning_of names.now) told.old told.new
+        (λ c. CheckedPart (meaning_of names.now) fault.old fault.new
         (stored_faults (meaning_of names.now) (map written_target targets.now)
         (map written_expression raws.now))
         (λ d. numbering.change d
         (written.Set 0 (map written_target targets.now) (map written_expression raws.now)))
         (change_of c)) }
 {
-    let typed = all_targets(alloc, names, targets, told)?;
-    let values = values(alloc, names, typed.kinds.as_slice(), raws, told)?;
+    let typed = all_targets(alloc, names, targets, fault)?;
+    let values = values(alloc, names, typed.kinds.as_slice(), raws, fault)?;
     let targets = typed.targets;
     Ok(Change::Set { targets, values })
 }
@@ -191,10 +191,10 @@ fn stored(
     names: &Names,
     targets: &[RawTarget],
     raws: &[RawExpr],
-    told: &mut FirstFault,
+    fault: &mut FirstFault,
 ) -> Result<Change, NoMemory>
     ensures { IfOk result
-        (λ c. CheckedPart (meaning_of names.now) told.old told.new
+        (λ c. CheckedPart (meaning_of names.now) fault.old fault.new
         (stored_faults (meaning_of names.now) (map written_target targets.now)
         (map written_expression raws.now))
         (λ d. numbering.change d
@@ -202,9 +202,9 @@ fn stored(
         (change_of c)) }
 {
     if targets.len() == 1 {
-        set_one(alloc, names, &targets[0], raws, told)
+        set_one(alloc, names, &targets[0], raws, fault)
     } else {
-        set_all(alloc, names, targets, raws, told)
+        set_all(alloc, names, targets, raws, fault)
     }
 }
 
@@ -215,10 +215,10 @@ fn set(
     at: usize,
     targets: &[RawTarget],
     raws: &[RawExpr],
-    told: &mut FirstFault,
+    fault: &mut FirstFault,
 ) -> Result<Change, NoMemory>
     ensures { IfOk result
-        (λ c. CheckedPart (meaning_of names.now) told.old told.new
+        (λ c. CheckedPart (meaning_of names.now) fault.old fault.new
         (change_faults (meaning_of names.now)
         (written.Set at (map written_target targets.now) (map written_expression raws.now)))
         (λ d. numbering.change d
@@ -226,31 +226,31 @@ fn set(
         (change_of c)) }
 {
     let differs = targets.len() != raws.len();
-    told.note(differs, StaticKind::ValueCount, at);
-    report_too_many(TARGETS_MAX, targets, told);
-    let change = stored(alloc, names, targets, raws, told)?;
+    fault.note(differs, StaticKind::ValueCount, at);
+    report_too_many(TARGETS_MAX, targets, fault);
+    let change = stored(alloc, names, targets, raws, fault)?;
     Ok(change)
 }
 
 /// What a draw takes its value from.
-fn choice(names: &Names, raw: &RawChoice, told: &mut FirstFault) -> Choice
-    ensures { CheckedPart (meaning_of names.now) told.old told.new
+fn choice(names: &Names, raw: &RawChoice, fault: &mut FirstFault) -> Choice
+    ensures { CheckedPart (meaning_of names.now) fault.old fault.new
         (choice_faults (meaning_of names.now) (written_choice raw.now))
         (λ d. numbering.choice d (written_choice raw.now)) (choice_of result) }
 {
     match raw {
         RawChoice::Uniform { lo, hi } => {
-            let least = literal(lo, told);
-            let most = literal(hi, told);
-            report_empty_range(lo, hi, told);
-            report_wide_range(lo, hi, told);
+            let least = literal(lo, fault);
+            let most = literal(hi, fault);
+            report_empty_range(lo, hi, fault);
+            report_wide_range(lo, hi, fault);
             Choice::Uniform {
                 lo: least,
                 hi: most,
             }
         }
         RawChoice::ByTable { table: name } => Choice::ByTable {
-            table: table(names, name, told),
+            table: table(names, name, fault),
         },
     }
 }
@@ -260,17 +260,17 @@ pub fn source(
     names: &Names,
     stream: &RawNumber,
     from: &RawChoice,
-    told: &mut FirstFault,
+    fault: &mut FirstFault,
 ) -> (u8, Choice)
-    ensures { Checked told.old told.new
+    ensures { Checked fault.old fault.new
         (source_faults (meaning_of names.now) (written_number stream.now)
         (written_choice from.now))
         ((natural (written_number stream.now) ≡ Some result.0)
         × NumberedAs (meaning_of names.now) (λ d. numbering.choice d (written_choice from.now))
         (choice_of result.1)) }
 {
-    let stream = bounded(stream, 0, 63, StaticKind::StreamOutside, told);
-    let choice = choice(names, from, told);
+    let stream = bounded(stream, 0, 63, StaticKind::StreamOutside, fault);
+    let choice = choice(names, from, fault);
     (stream as u8, choice)
 }
 
@@ -281,10 +281,10 @@ fn draw(
     raw: &RawTarget,
     stream: &RawNumber,
     from: &RawChoice,
-    told: &mut FirstFault,
+    fault: &mut FirstFault,
 ) -> Result<Change, NoMemory>
     ensures { IfOk result
-        (λ c. CheckedPart (meaning_of names.now) told.old told.new
+        (λ c. CheckedPart (meaning_of names.now) fault.old fault.new
         (change_faults (meaning_of names.now)
         (written.Draw 0 (written_target raw.now) (written_number stream.now)
         (written_choice from.now)))
@@ -292,10 +292,10 @@ fn draw(
         (written.Draw 0 (written_target raw.now) (written_number stream.now)
         (written_choice from.now))) (change_of c)) }
 {
-    let drawn = target(alloc, names, raw, told)?;
+    let drawn = target(alloc, names, raw, fault)?;
     let differs = kinds_differ(Some(Kind::Range), drawn.kind);
-    told.note(differs, StaticKind::KindMismatch, raw.name.at);
-    let (stream, choice) = source(names, stream, from, told);
+    fault.note(differs, StaticKind::KindMismatch, raw.name.at);
+    let (stream, choice) = source(names, stream, from, fault);
     Ok(Change::Draw {
         target: drawn.part,
         stream,
@@ -308,10 +308,10 @@ fn change(
     alloc: Global,
     names: &Names,
     raw: &RawChange,
-    told: &mut FirstFault,
+    fault: &mut FirstFault,
 ) -> Result<Change, NoMemory>
     ensures { IfOk result
-        (λ c. CheckedPart (meaning_of names.now) told.old told.new
+        (λ c. CheckedPart (meaning_of names.now) fault.old fault.new
         (change_faults (meaning_of names.now) (written_change raw.now))
         (λ d. numbering.change d (written_change raw.now)) (change_of c)) }
 {
@@ -326,14 +326,14 @@ fn change(
             *at,
             targets.as_slice(),
             values.as_slice(),
-            told,
+            fault,
         ),
         RawChange::Draw {
             target,
             stream,
             choice,
             ..
-        } => draw(alloc, names, target, stream, choice, told),
+        } => draw(alloc, names, target, stream, choice, fault),
     }
 }
 
@@ -342,17 +342,17 @@ pub fn changes(
     alloc: Global,
     names: &Names,
     raws: &[RawChange],
-    told: &mut FirstFault,
+    fault: &mut FirstFault,
 ) -> Result<List<Change>, NoMemory>
     ensures { IfOk result
-        (λ cs. CheckedPart (meaning_of names.now) told.old told.new
+        (λ cs. CheckedPart (meaning_of names.now) fault.old fault.new
         (flat_map (change_faults (meaning_of names.now)) (map written_change raws.now))
         (λ d. each_numbered (numbering.change d) (map written_change raws.now))
         (map change_of cs)) }
 {
     let mut changes = Vec::with_capacity(alloc, raws.len())?;
     for raw in raws {
-        let change = change(alloc, names, raw, told)?;
+        let change = change(alloc, names, raw, fault)?;
         changes.push(change)?;
     }
     Ok(List::from_vec(changes))

@@ -21,10 +21,10 @@ ghost use Rattle.static_laws.specs.DeclaredFaults.{faults_of_declared};
 use crate::declaring::{declare_all, report_long_name};
 use crate::edges::items;
 use crate::error::StaticError;
+use crate::first_fault::FirstFault;
 use crate::names::Names;
 use crate::placed::report_too_many;
 use crate::tables::check_tables;
-use crate::told::FirstFault;
 use crate::variables::check_variables;
 use crate::versions::report_version;
 use crate::vertices::{taken, vertices};
@@ -35,40 +35,40 @@ use sig_base::{List, NoMemory, TABLES_MAX, TEXT_MAX, Table, VARIABLES_MAX, VERTI
 use std::alloc::Global;
 
 /// The names that a model declares. Those that are declared again are reported.
-fn names_of(alloc: Global, raw: &RawModel, told: &mut FirstFault) -> Result<Names, NoMemory>
+fn names_of(alloc: Global, raw: &RawModel, fault: &mut FirstFault) -> Result<Names, NoMemory>
     ensures means { IfOk result
         (λ names. meaning_of names ≡ model_meaning (written_model raw.now)) }
-    ensures told { OnOk result
-        (told.new ≡ earliest_fault told.old
+    ensures earliest { OnOk result
+        (fault.new ≡ earliest_fault fault.old
         (repeated_names [] (map declared_name (declarations (written_model raw.now))))) }
 {
     let count = raw.vars.len().saturating_add(raw.tables.len());
     let mut names = Names::with_capacity(alloc, count.saturating_add(raw.vertices.len()))?;
-    declare_all(alloc, &mut names, raw.vars.as_slice(), told)?;
-    declare_all(alloc, &mut names, raw.tables.as_slice(), told)?;
-    declare_all(alloc, &mut names, raw.vertices.as_slice(), told)?;
+    declare_all(alloc, &mut names, raw.vars.as_slice(), fault)?;
+    declare_all(alloc, &mut names, raw.tables.as_slice(), fault)?;
+    declare_all(alloc, &mut names, raw.vertices.as_slice(), fault)?;
     Ok(names)
 }
 
 /// Reports the declarations that are too many.
-fn report_counts(raw: &RawModel, told: &mut FirstFault)
-    ensures { told.new ≡ earliest_fault told.old (faults_of_counts (written_model raw.now)) }
+fn report_counts(raw: &RawModel, fault: &mut FirstFault)
+    ensures { fault.new ≡ earliest_fault fault.old (faults_of_counts (written_model raw.now)) }
 {
-    report_too_many(VARIABLES_MAX, raw.vars.as_slice(), told);
-    report_too_many(TABLES_MAX, raw.tables.as_slice(), told);
-    report_too_many(VERTICES_MAX, raw.vertices.as_slice(), told);
+    report_too_many(VARIABLES_MAX, raw.vars.as_slice(), fault);
+    report_too_many(TABLES_MAX, raw.tables.as_slice(), fault);
+    report_too_many(VERTICES_MAX, raw.vertices.as_slice(), fault);
 }
 
 /// The names that a model declares. Faults of its own name are reported, and names declared again, and declarations too many.
-pub fn declared(alloc: Global, raw: &RawModel, told: &mut FirstFault) -> Result<Names, NoMemory>
+pub fn declared(alloc: Global, raw: &RawModel, fault: &mut FirstFault) -> Result<Names, NoMemory>
     ensures means { IfOk result
         (λ names. meaning_of names ≡ model_meaning (written_model raw.now)) }
-    ensures told { OnOk result
-        (told.new ≡ earliest_fault told.old (faults_of_declared (written_model raw.now))) }
+    ensures earliest { OnOk result
+        (fault.new ≡ earliest_fault fault.old (faults_of_declared (written_model raw.now))) }
 {
-    report_long_name(&raw.name, told);
-    let names = names_of(alloc, raw, told)?;
-    report_counts(raw, told);
+    report_long_name(&raw.name, fault);
+    let names = names_of(alloc, raw, fault)?;
+    report_counts(raw, fault);
     Ok(names)
 }
 
@@ -87,22 +87,22 @@ pub fn check_lists(
     vars: List<RawVar>,
     tables: List<RawTable>,
     watch: &[RawName],
-    told: &mut FirstFault,
+    fault: &mut FirstFault,
 ) -> Result<CheckedLists, NoMemory>
     ensures { IfOk result (λ lists. (first : Option StaticFault) × (second : Option StaticFault)
-        × CheckedPlain told.old first (flat_map variable_faults (map written_variable vars))
+        × CheckedPlain fault.old first (flat_map variable_faults (map written_variable vars))
         (each_numbered numbering.variable (map written_variable vars)) (map variable_of lists.vars)
         × CheckedPlain first second (flat_map table_faults (map written_table tables))
         (each_numbered numbering.table (map written_table tables)) (map table_of lists.tables)
-        × CheckedPart (meaning_of names.now) second told.new
+        × CheckedPart (meaning_of names.now) second fault.new
         (flat_map (use_faults (meaning_of names.now) AsWatched) (map written_name watch.now)
         ++ repeated_names [] (map written_name watch.now))
         (λ d. each_numbered (numbering.watched d) (map written_name watch.now))
         (map watched_of lists.watch)) }
 {
-    let vars = check_variables(alloc, vars, told)?;
-    let tables = check_tables(alloc, tables, told)?;
-    let watch = watch_list(alloc, names, watch, told)?;
+    let vars = check_variables(alloc, vars, fault)?;
+    let tables = check_tables(alloc, tables, fault)?;
+    let watch = watch_list(alloc, names, watch, fault)?;
     Ok(CheckedLists {
         vars,
         tables,
@@ -117,18 +117,18 @@ fn numbered_among(
     names: &Names,
     taken: &[List<Option<Kind>>],
     raw: RawModel,
-    told: &mut FirstFault,
+    fault: &mut FirstFault,
 ) -> Result<Model, NoMemory>
     ensures { IfOk result
         (λ model. meaning_of names.now ≡ model_meaning (written_model raw)
         → taken.now ≡ model_takes (written_model raw)
         → (start : Option StaticFault)
-        → told.old ≡ earliest_fault start (faults_of_declared (written_model raw))
-        → Checked start told.new (faults_of_parts (written_model raw))
+        → fault.old ≡ earliest_fault start (faults_of_declared (written_model raw))
+        → Checked start fault.new (faults_of_parts (written_model raw))
         (numbering.numbered (written_model raw) ≡ Some (graph_of model))) }
 {
-    let lists = check_lists(alloc, names, raw.vars, raw.tables, items(&raw.watch), told)?;
-    let vertices = vertices(alloc, names, taken, raw.vertices, told)?;
+    let lists = check_lists(alloc, names, raw.vars, raw.tables, items(&raw.watch), fault)?;
+    let vertices = vertices(alloc, names, taken, raw.vertices, fault)?;
     Ok(Model {
         name: raw.name.name,
         vars: lists.vars,
@@ -149,27 +149,27 @@ struct NamesAndKinds {
 fn names_and_kinds(
     alloc: Global,
     raw: &RawModel,
-    told: &mut FirstFault,
+    fault: &mut FirstFault,
 ) -> Result<NamesAndKinds, NoMemory>
     ensures means { IfOk result
         (λ known. meaning_of known.names ≡ model_meaning (written_model raw.now)) }
     ensures takes { IfOk result (λ known. known.taken ≡ model_takes (written_model raw.now)) }
-    ensures told { OnOk result
-        (told.new ≡ earliest_fault told.old (faults_of_declared (written_model raw.now))) }
+    ensures earliest { OnOk result
+        (fault.new ≡ earliest_fault fault.old (faults_of_declared (written_model raw.now))) }
 {
-    let names = declared(alloc, raw, told)?;
+    let names = declared(alloc, raw, fault)?;
     let taken = taken(alloc, &names, raw.vertices.as_slice())?;
     Ok(NamesAndKinds { names, taken })
 }
 
 /// The model with numbers in place of names. Where it has a fault, nothing is said of what is given.
-fn numbered(alloc: Global, raw: RawModel, told: &mut FirstFault) -> Result<Model, NoMemory>
+fn numbered(alloc: Global, raw: RawModel, fault: &mut FirstFault) -> Result<Model, NoMemory>
     ensures { IfOk result
-        (λ model. Checked told.old told.new (faults_of_parts (written_model raw))
+        (λ model. Checked fault.old fault.new (faults_of_parts (written_model raw))
         (numbering.numbered (written_model raw) ≡ Some (graph_of model))) }
 {
-    let known = names_and_kinds(alloc, &raw, told)?;
-    numbered_among(alloc, &known.names, known.taken.as_slice(), raw, told)
+    let known = names_and_kinds(alloc, &raw, fault)?;
+    numbered_among(alloc, &known.names, known.taken.as_slice(), raw, fault)
 }
 
 /// Whether the canonical text of a model has too many bytes.
@@ -180,29 +180,33 @@ fn is_too_long(model: &Model) -> bool
 }
 
 /// Where no other fault was found, reports that the canonical text of a model has too many bytes.
-pub fn report_long_text(model: &Model, end_at: usize, told: &mut FirstFault)
-    ensures none { told.old ≡ None
-        → told.new ≡ earliest_fault None
+pub fn report_long_text(model: &Model, end_at: usize, fault: &mut FirstFault)
+    ensures none { fault.old ≡ None
+        → fault.new ≡ earliest_fault None
         (model_too_long TEXT_MAX (canonical (graph_of model.now)) end_at) }
-    ensures some { (f : StaticFault) → told.old ≡ Some f → told.new ≡ told.old }
+    ensures some { (f : StaticFault) → fault.old ≡ Some f → fault.new ≡ fault.old }
 {
-    if told.fault().is_none() {
-        told.note(is_too_long(model), StaticKind::ModelTooLong, end_at);
+    if fault.found().is_none() {
+        fault.note(is_too_long(model), StaticKind::ModelTooLong, end_at);
     }
 }
 
-/// The model with numbers in place of names. `told` keeps the first of all its faults.
-fn model_with_faults(alloc: Global, raw: RawModel, told: &mut FirstFault) -> Result<Model, NoMemory>
-    requires { told.old ≡ None }
-    ensures told { OnOk result (told.new ≡ first_fault (written_model raw)) }
+/// The model with numbers in place of names. `fault` keeps the first of all its faults.
+fn model_with_faults(
+    alloc: Global,
+    raw: RawModel,
+    fault: &mut FirstFault,
+) -> Result<Model, NoMemory>
+    requires { fault.old ≡ None }
+    ensures earliest { OnOk result (fault.new ≡ first_fault (written_model raw)) }
     ensures numbered { IfOk result
         (λ model. faults_of_parts (written_model raw) ≡ []
         → numbering.numbered (written_model raw) ≡ Some (graph_of model)) }
 {
     let end_at = raw.end_at;
-    report_version(&raw, told);
-    let model = numbered(alloc, raw, told)?;
-    report_long_text(&model, end_at, told);
+    report_version(&raw, fault);
+    let model = numbered(alloc, raw, fault)?;
+    report_long_text(&model, end_at, fault);
     Ok(model)
 }
 
@@ -212,16 +216,16 @@ pub fn check(alloc: Global, raw: RawModel) -> Result<Model, StaticError>
     // What is accepted is numbered as it is written, and breaks no rule.
     ensures accepted { IfOk result (λ model. Accepted (written_model raw) (graph_of model)) }
     // The rule is broken, at the least place, and there no rule before it in the table is.
-    ensures told { (kind : Rule) (at : ℕ) → result ≡ Err (errors.Fault kind at)
+    ensures refused { (kind : Rule) (at : ℕ) → result ≡ Err (errors.Fault kind at)
         → IsFirstFault (written_model raw) kind at }
 {
-    let mut told = FirstFault::new();
-    let model = model_with_faults(alloc, raw, &mut told)?;
-    match told.fault() {
+    let mut fault = FirstFault::new();
+    let model = model_with_faults(alloc, raw, &mut fault)?;
+    match fault.found() {
         None => Ok(model),
-        Some(fault) => Err(StaticError::Fault {
-            kind: fault.kind,
-            at: fault.at,
+        Some(found) => Err(StaticError::Fault {
+            kind: found.kind,
+            at: found.at,
         }),
     }
 }

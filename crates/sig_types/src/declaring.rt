@@ -9,8 +9,8 @@ ghost use Rattle.model_core.specs.Static.RuleTable.{name_too_long};
 ghost use Rattle.sig_types.specs.Inner.Redeclared.{redeclared};
 ghost use Rattle.sig_types.specs.Seen.{meaning_seen};
 
+use crate::first_fault::FirstFault;
 use crate::names::{Meaning, Names};
-use crate::told::FirstFault;
 use model_core::{Kind, RawKind, RawName, RawTable, RawVar, RawVertex, StaticKind};
 use sig_base::{NAME_MAX, NoMemory};
 use std::alloc::Global;
@@ -41,30 +41,30 @@ pub(crate) fn declare_all<T: Declares>(
     alloc: Global,
     names: &mut Names,
     parts: &[T],
-    told: &mut FirstFault,
+    fault: &mut FirstFault,
 ) -> Result<(), NoMemory>
     ensures means { OnOk result
         (meaning_of names.new
         ≡ meaning_of (names.old ++ declarations_from T.declaration 0 (map T.written parts.now))) }
-    ensures told { OnOk result
-        (told.new ≡ earliest_fault told.old
+    ensures earliest { OnOk result
+        (fault.new ≡ earliest_fault fault.old
         (redeclared names.old (declarations_from T.declaration 0 (map T.written parts.now)))) }
 {
     for (place, part) in parts.iter().enumerate() {
         let meaning = part.meaning(place);
         let name = part.name();
         let added = names.add(alloc, &name.name, meaning)?;
-        told.note(!added, StaticKind::DuplicateName, name.at);
+        fault.note(!added, StaticKind::DuplicateName, name.at);
     }
     Ok(())
 }
 
 /// Reports a name that is declared and too long.
-pub fn report_long_name(raw: &RawName, told: &mut FirstFault)
-    ensures { told.new ≡ earliest_fault told.old (name_too_long (written_name raw.now)) }
+pub fn report_long_name(raw: &RawName, fault: &mut FirstFault)
+    ensures { fault.new ≡ earliest_fault fault.old (name_too_long (written_name raw.now)) }
 {
     let long = raw.name.as_slice().len() > NAME_MAX;
-    told.note(long, StaticKind::NameTooLong, raw.at);
+    fault.note(long, StaticKind::NameTooLong, raw.at);
 }
 
 /// The kind of a variable.

@@ -18,9 +18,9 @@ ghost use Rattle.sig_types.specs.Inner.Stored.{taken_by};
 
 use crate::changes::{source, values};
 use crate::expressions::operand;
+use crate::first_fault::FirstFault;
 use crate::names::Names;
 use crate::numbers::bounded;
-use crate::told::FirstFault;
 use crate::uses::vertex;
 use model_core::{
     Delay, Edge, EdgeForm, Expr, Kind, RawDelay, RawEdge, RawEdgeForm, RawExpr, RawNumber,
@@ -44,10 +44,10 @@ fn condition(
     alloc: Global,
     names: &Names,
     raw: &Option<RawExpr>,
-    told: &mut FirstFault,
+    fault: &mut FirstFault,
 ) -> Result<Expr, NoMemory>
     ensures { IfOk result
-        (λ e. CheckedPart (meaning_of names.now) told.old told.new
+        (λ e. CheckedPart (meaning_of names.now) fault.old fault.new
         (if_written (operand_faults (meaning_of names.now) (Some kinds.Truth))
         (option_map written_expression raw.now))
         (λ d. written_or (numbering.expression d) (Truth true)
@@ -56,7 +56,7 @@ fn condition(
     let Some(raw) = raw else {
         return Ok(Expr::Truth(true));
     };
-    let expr = operand(alloc, names, Some(Kind::Truth), raw, told)?;
+    let expr = operand(alloc, names, Some(Kind::Truth), raw, fault)?;
     Ok(expr.part)
 }
 
@@ -66,21 +66,21 @@ fn delay(
     alloc: Global,
     names: &Names,
     raw: &RawDelay,
-    told: &mut FirstFault,
+    fault: &mut FirstFault,
 ) -> Result<Delay, NoMemory>
     ensures { IfOk result
         (λ w. (taken : List (List (Option KnownKind)))
-        → CheckedPart (meaning_of names.now) told.old told.new
+        → CheckedPart (meaning_of names.now) fault.old fault.new
         (delay_faults (meaning_of names.now) taken (written_delay raw.now))
         (λ d. numbering.delay d (written_delay raw.now)) (edge_delay_of w)) }
 {
     match raw {
         RawDelay::Fixed(raw) => {
-            let expr = operand(alloc, names, Some(Kind::Range), raw, told)?;
+            let expr = operand(alloc, names, Some(Kind::Range), raw, fault)?;
             Ok(Delay::Fixed(expr.part))
         }
         RawDelay::Drawn { stream, choice, .. } => {
-            let (stream, choice) = source(names, stream, choice, told);
+            let (stream, choice) = source(names, stream, choice, fault);
             Ok(Delay::Drawn { stream, choice })
         }
     }
@@ -91,29 +91,29 @@ fn after(
     alloc: Global,
     names: &Names,
     raw: &Option<RawDelay>,
-    told: &mut FirstFault,
+    fault: &mut FirstFault,
 ) -> Result<Delay, NoMemory>
     ensures { IfOk result
         (λ w. (taken : List (List (Option KnownKind)))
-        → CheckedPart (meaning_of names.now) told.old told.new
+        → CheckedPart (meaning_of names.now) fault.old fault.new
         (if_written (delay_faults (meaning_of names.now) taken) (option_map written_delay raw.now))
         (λ d. written_or (numbering.delay d) (Fixed (Number (pos 0)))
         (option_map written_delay raw.now)) (edge_delay_of w)) }
 {
     match raw {
-        Some(raw) => delay(alloc, names, raw, told),
+        Some(raw) => delay(alloc, names, raw, fault),
         None => Ok(Delay::Fixed(Expr::Int(0))),
     }
 }
 
 /// A priority: 5 where none is written.
-fn priority_of(raw: &Option<RawNumber>, told: &mut FirstFault) -> u8
-    ensures { CheckedPlain told.old told.new
+fn priority_of(raw: &Option<RawNumber>, fault: &mut FirstFault) -> u8
+    ensures { CheckedPlain fault.old fault.new
         (if_written priority_faults (option_map written_number raw.now))
         (written_or natural 5 (option_map written_number raw.now)) result }
 {
     match raw {
-        Some(raw) => bounded(raw, 1, 255, StaticKind::PriorityOutside, told) as u8,
+        Some(raw) => bounded(raw, 1, 255, StaticKind::PriorityOutside, fault) as u8,
         None => 5,
     }
 }
@@ -123,18 +123,18 @@ fn form(
     alloc: Global,
     names: &Names,
     raw: &RawEdgeForm,
-    told: &mut FirstFault,
+    fault: &mut FirstFault,
 ) -> Result<EdgeForm, NoMemory>
     ensures { IfOk result
         (λ f. (taken : List (List (Option KnownKind)))
-        → CheckedPart (meaning_of names.now) told.old told.new
+        → CheckedPart (meaning_of names.now) fault.old fault.new
         (schedule_faults (meaning_of names.now) taken (written_edge_kind raw.now))
         (λ d. numbering.edge_kind d (written_edge_kind raw.now)) (edge_kind_of f)) }
 {
     match raw {
         RawEdgeForm::Schedule { delay, priority } => {
-            let delay = after(alloc, names, delay, told)?;
-            let priority = priority_of(priority, told);
+            let delay = after(alloc, names, delay, fault)?;
+            let priority = priority_of(priority, fault);
             Ok(EdgeForm::Schedule { delay, priority })
         }
         RawEdgeForm::Urgent => Ok(EdgeForm::Urgent),
@@ -150,19 +150,19 @@ fn report_value_count(
     wanted: usize,
     given: usize,
     at: usize,
-    told: &mut FirstFault,
+    fault: &mut FirstFault,
 )
-    ensures { told.new
-        ≡ earliest_fault told.old (count_faults (written_edge_kind form.now) wanted given at) }
+    ensures { fault.new
+        ≡ earliest_fault fault.old (count_faults (written_edge_kind form.now) wanted given at) }
 {
     match form {
-        RawEdgeForm::CancelNext | RawEdgeForm::CancelAll => told.note(
+        RawEdgeForm::CancelNext | RawEdgeForm::CancelAll => fault.note(
             given != 0,
             StaticKind::ValueCount,
             at,
         ),
         RawEdgeForm::Schedule { .. } | RawEdgeForm::Urgent | RawEdgeForm::CancelEqual => {
-            told.note(wanted != given, StaticKind::ValueCount, at);
+            fault.note(wanted != given, StaticKind::ValueCount, at);
         }
     }
 }
@@ -181,10 +181,10 @@ fn carried(
     taken: &[List<Option<Kind>>],
     target: Option<usize>,
     raw: &RawEdge,
-    told: &mut FirstFault,
+    fault: &mut FirstFault,
 ) -> Result<List<Expr>, NoMemory>
     ensures { IfOk result
-        (λ es. CheckedPart (meaning_of names.now) told.old told.new
+        (λ es. CheckedPart (meaning_of names.now) fault.old fault.new
         (carried_faults (meaning_of names.now) taken.now (written_edge raw.now)
         (taken_by taken.now target))
         (λ d. written_or (each_numbered (numbering.expression d)) [] (written_edge raw.now).values)
@@ -192,11 +192,11 @@ fn carried(
 {
     let raws = items(&raw.values);
     match taken_at(taken, target) {
-        None => values(alloc, names, &[], raws, told),
+        None => values(alloc, names, &[], raws, fault),
         Some(kinds) => {
             let kinds = kinds.as_slice();
-            report_value_count(&raw.form, kinds.len(), raws.len(), raw.target.at, told);
-            values(alloc, names, kinds, raws, told)
+            report_value_count(&raw.form, kinds.len(), raws.len(), raw.target.at, fault);
+            values(alloc, names, kinds, raws, fault)
         }
     }
 }
@@ -207,17 +207,17 @@ pub fn edge(
     names: &Names,
     taken: &[List<Option<Kind>>],
     raw: &RawEdge,
-    told: &mut FirstFault,
+    fault: &mut FirstFault,
 ) -> Result<Edge, NoMemory>
     ensures { IfOk result
-        (λ e. CheckedPart (meaning_of names.now) told.old told.new
+        (λ e. CheckedPart (meaning_of names.now) fault.old fault.new
         (edge_faults (meaning_of names.now) taken.now (written_edge raw.now))
         (λ d. numbering.edge d (written_edge raw.now)) (edge_of e)) }
 {
-    let target = vertex(names, &raw.target, told);
-    let values = carried(alloc, names, taken, target, raw, told)?;
-    let form = form(alloc, names, &raw.form, told)?;
-    let condition = condition(alloc, names, &raw.condition, told)?;
+    let target = vertex(names, &raw.target, fault);
+    let values = carried(alloc, names, taken, target, raw, fault)?;
+    let form = form(alloc, names, &raw.form, fault)?;
+    let condition = condition(alloc, names, &raw.condition, fault)?;
     Ok(Edge {
         target: target.unwrap_or(0),
         values,
@@ -232,16 +232,16 @@ pub fn edges(
     names: &Names,
     taken: &[List<Option<Kind>>],
     raws: &[RawEdge],
-    told: &mut FirstFault,
+    fault: &mut FirstFault,
 ) -> Result<List<Edge>, NoMemory>
     ensures { IfOk result
-        (λ es. CheckedPart (meaning_of names.now) told.old told.new
+        (λ es. CheckedPart (meaning_of names.now) fault.old fault.new
         (flat_map (edge_faults (meaning_of names.now) taken.now) (map written_edge raws.now))
         (λ d. each_numbered (numbering.edge d) (map written_edge raws.now)) (map edge_of es)) }
 {
     let mut edges = Vec::with_capacity(alloc, raws.len())?;
     for raw in raws {
-        let edge = edge(alloc, names, taken, raw, told)?;
+        let edge = edge(alloc, names, taken, raw, fault)?;
         edges.push(edge)?;
     }
     Ok(List::from_vec(edges))

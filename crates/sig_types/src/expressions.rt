@@ -9,9 +9,9 @@ ghost use Rattle.model_core.specs.Static.Kinds.{expression_kind};
 ghost use Rattle.model_core.specs.Static.PartFaults.{expression_faults, operand_faults};
 ghost use Rattle.static_laws.specs.Checked.{CheckedPart};
 
+use crate::first_fault::FirstFault;
 use crate::kinds::{Typed, kinds_differ, known_or, operand_kind, result_kind, right_kind};
 use crate::names::Names;
-use crate::told::FirstFault;
 use crate::uses::variable;
 use model_core::{Expr, Kind, RawExpr, RawForm, StaticKind};
 use sig_base::NoMemory;
@@ -24,18 +24,18 @@ pub(crate) fn operand(
     names: &Names,
     wanted: Option<Kind>,
     raw: &RawExpr,
-    told: &mut FirstFault,
+    fault: &mut FirstFault,
 ) -> Result<Typed<Expr>, NoMemory>
     ensures checked { IfOk result
-        (λ e. CheckedPart (meaning_of names.now) told.old told.new
+        (λ e. CheckedPart (meaning_of names.now) fault.old fault.new
         (operand_faults (meaning_of names.now) wanted (written_expression raw.now))
         (λ d. expression d (written_expression raw.now)) (expression_of e.part)) }
     ensures kind { IfOk result
         (λ e. e.kind ≡ expression_kind (meaning_of names.now) (written_expression raw.now)) }
 {
-    let typed = typed_expression(alloc, names, raw, told)?;
+    let typed = typed_expression(alloc, names, raw, fault)?;
     let differs = kinds_differ(wanted, typed.kind);
-    told.note(differs, StaticKind::KindMismatch, raw.at);
+    fault.note(differs, StaticKind::KindMismatch, raw.at);
     Ok(typed)
 }
 
@@ -46,16 +46,16 @@ fn boxed_operand(
     names: &Names,
     wanted: Option<Kind>,
     raw: &Box<RawExpr>,
-    told: &mut FirstFault,
+    fault: &mut FirstFault,
 ) -> Result<Typed<Box<Expr>>, NoMemory>
     ensures checked { IfOk result
-        (λ e. CheckedPart (meaning_of names.now) told.old told.new
+        (λ e. CheckedPart (meaning_of names.now) fault.old fault.new
         (operand_faults (meaning_of names.now) wanted (written_expression raw.now.value))
         (λ d. expression d (written_expression raw.now.value)) (expression_of e.part.value)) }
     ensures kind { IfOk result
         (λ e. e.kind ≡ expression_kind (meaning_of names.now) (written_expression raw.now.value)) }
 {
-    let typed = operand(alloc, names, wanted, raw, told)?;
+    let typed = operand(alloc, names, wanted, raw, fault)?;
     let kind = typed.kind;
     let part = Box::new(alloc, typed.part)?;
     Ok(Typed { part, kind })
@@ -67,10 +67,10 @@ fn typed_expression(
     alloc: Global,
     names: &Names,
     raw: &RawExpr,
-    told: &mut FirstFault,
+    fault: &mut FirstFault,
 ) -> Result<Typed<Expr>, NoMemory>
     ensures checked { IfOk result
-        (λ e. CheckedPart (meaning_of names.now) told.old told.new
+        (λ e. CheckedPart (meaning_of names.now) fault.old fault.new
         (expression_faults (meaning_of names.now) (written_expression raw.now))
         (λ d. expression d (written_expression raw.now)) (expression_of e.part)) }
     ensures kind { IfOk result
@@ -78,7 +78,7 @@ fn typed_expression(
 {
     match &raw.form {
         RawForm::Int(number) => {
-            told.note(
+            fault.note(
                 number.value.is_none(),
                 StaticKind::LiteralTooLarge,
                 number.at,
@@ -97,29 +97,29 @@ fn typed_expression(
             kind: Some(Kind::Range),
         }),
         RawForm::Scalar(name) => {
-            let var = variable(names, false, name, told);
+            let var = variable(names, false, name, fault);
             Ok(Typed {
                 part: Expr::Scalar(var.part),
                 kind: var.kind,
             })
         }
         RawForm::Cell(name, index) => {
-            let var = variable(names, true, name, told);
-            let index = boxed_operand(alloc, names, Some(Kind::Range), index, told)?;
+            let var = variable(names, true, name, fault);
+            let index = boxed_operand(alloc, names, Some(Kind::Range), index, fault)?;
             Ok(Typed {
                 part: Expr::Cell(var.part, index.part),
                 kind: var.kind,
             })
         }
         RawForm::Neg(number) => {
-            let number = boxed_operand(alloc, names, Some(Kind::Range), number, told)?;
+            let number = boxed_operand(alloc, names, Some(Kind::Range), number, fault)?;
             Ok(Typed {
                 part: Expr::Neg(number.part),
                 kind: Some(Kind::Range),
             })
         }
         RawForm::Not(truth) => {
-            let truth = boxed_operand(alloc, names, Some(Kind::Truth), truth, told)?;
+            let truth = boxed_operand(alloc, names, Some(Kind::Truth), truth, fault)?;
             Ok(Typed {
                 part: Expr::Not(truth.part),
                 kind: Some(Kind::Truth),
@@ -127,17 +127,17 @@ fn typed_expression(
         }
         RawForm::Binary(op, left, right) => {
             let wanted = operand_kind(*op);
-            let left = boxed_operand(alloc, names, wanted, left, told)?;
-            let right = boxed_operand(alloc, names, right_kind(*op, left.kind), right, told)?;
+            let left = boxed_operand(alloc, names, wanted, left, fault)?;
+            let right = boxed_operand(alloc, names, right_kind(*op, left.kind), right, fault)?;
             Ok(Typed {
                 part: Expr::Binary(*op, left.part, right.part),
                 kind: Some(result_kind(*op)),
             })
         }
         RawForm::If(test, yes, no) => {
-            let test = boxed_operand(alloc, names, Some(Kind::Truth), test, told)?;
-            let yes = boxed_operand(alloc, names, None, yes, told)?;
-            let no = boxed_operand(alloc, names, yes.kind, no, told)?;
+            let test = boxed_operand(alloc, names, Some(Kind::Truth), test, fault)?;
+            let yes = boxed_operand(alloc, names, None, yes, fault)?;
+            let no = boxed_operand(alloc, names, yes.kind, no, fault)?;
             let kind = known_or(yes.kind, no.kind);
             Ok(Typed {
                 part: Expr::If(test.part, yes.part, no.part),

@@ -45,7 +45,9 @@ impl Model for Names {
 
     ghost Value = { List Declaration };
 
-    ghost view = { λ n. map (λ (e : Bytes ℕ × Meaning). declaration_of e.0.items (meaning_seen e.1)) n.table.entries };
+    ghost view = { λ n. map
+        (λ (e : Bytes ℕ × Meaning). declaration_of e.0.items (meaning_seen e.1))
+        n.table.entries };
 }
 
 impl Names {

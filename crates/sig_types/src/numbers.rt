@@ -8,7 +8,7 @@ ghost use Rattle.model_core.specs.Static.RuleTable as table;
 ghost use Rattle.model_core.specs.Static.RuleTable.{is_between, number_too_large, literal_too_large, empty_range, initial_outside, draw_outside};
 ghost use Rattle.static_laws.specs.Checked.{CheckedPlain};
 
-use crate::told::FirstFault;
+use crate::first_fault::FirstFault;
 use model_core::{RawNumber, RawSigned, StaticKind};
 use sig_base::{LITERAL_MAX, WEIGHTS_MAX};
 
@@ -35,13 +35,13 @@ fn certain_signed(raw: &RawSigned) -> i128
 }
 
 /// A literal. Where it is outside the limit of literals, 0.
-pub(crate) fn literal(raw: &RawSigned, told: &mut FirstFault) -> i64
-    ensures { CheckedPlain told.old told.new (literal_too_large (written_signed raw.now))
+pub(crate) fn literal(raw: &RawSigned, fault: &mut FirstFault) -> i64
+    ensures { CheckedPlain fault.old fault.new (literal_too_large (written_signed raw.now))
         (signed (written_signed raw.now)) result }
 {
     let certain = certain_signed(raw);
     let fits = -i128::from(LITERAL_MAX) <= certain && certain <= i128::from(LITERAL_MAX);
-    told.note(!fits, StaticKind::LiteralTooLarge, raw.at);
+    fault.note(!fits, StaticKind::LiteralTooLarge, raw.at);
     if fits { certain as i64 } else { 0 }
 }
 
@@ -58,9 +58,9 @@ pub fn bounded(
     least: usize,
     most: usize,
     kind: StaticKind,
-    told: &mut FirstFault,
+    fault: &mut FirstFault,
 ) -> usize
-    ensures checked { CheckedPlain told.old told.new
+    ensures checked { CheckedPlain fault.old fault.new
         (number_too_large (written_number raw.now)
         ++ fault_where
         (not (is_between (pos least) (pos most)
@@ -70,27 +70,27 @@ pub fn bounded(
 {
     let certain = certain_number(raw.value);
     let fits = lies_between(least as i128, most as i128, certain);
-    told.note(raw.value.is_none(), StaticKind::LiteralTooLarge, raw.at);
-    told.note(!fits, kind, raw.at);
+    fault.note(raw.value.is_none(), StaticKind::LiteralTooLarge, raw.at);
+    fault.note(!fits, kind, raw.at);
     if fits { certain as usize } else { 0 }
 }
 
 /// Reports that a first bound exceeds the second.
-pub(crate) fn report_empty_range(lo: &RawSigned, hi: &RawSigned, told: &mut FirstFault)
-    ensures { told.new
-        ≡ earliest_fault told.old (empty_range (written_signed lo.now) (written_signed hi.now)) }
+pub(crate) fn report_empty_range(lo: &RawSigned, hi: &RawSigned, fault: &mut FirstFault)
+    ensures { fault.new
+        ≡ earliest_fault fault.old (empty_range (written_signed lo.now) (written_signed hi.now)) }
 {
     let empty = certain_signed(hi) < certain_signed(lo);
-    told.note(empty, StaticKind::EmptyRange, lo.at);
+    fault.note(empty, StaticKind::EmptyRange, lo.at);
 }
 
 /// Reports that from a first bound to a second there are too many values for a draw.
-pub(crate) fn report_wide_range(lo: &RawSigned, hi: &RawSigned, told: &mut FirstFault)
-    ensures { told.new
-        ≡ earliest_fault told.old (draw_outside (written_signed lo.now) (written_signed hi.now)) }
+pub(crate) fn report_wide_range(lo: &RawSigned, hi: &RawSigned, fault: &mut FirstFault)
+    ensures { fault.new
+        ≡ earliest_fault fault.old (draw_outside (written_signed lo.now) (written_signed hi.now)) }
 {
     let wide = certain_signed(lo) + i128::from(WEIGHTS_MAX) <= certain_signed(hi);
-    told.note(wide, StaticKind::DrawOutside, lo.at);
+    fault.note(wide, StaticKind::DrawOutside, lo.at);
 }
 
 /// Reports that an initial value is outside its range.
@@ -98,10 +98,10 @@ pub(crate) fn report_initial_outside(
     lo: &RawSigned,
     hi: &RawSigned,
     initial: &RawSigned,
-    told: &mut FirstFault,
+    fault: &mut FirstFault,
 )
-    ensures { told.new
-        ≡ earliest_fault told.old
+    ensures { fault.new
+        ≡ earliest_fault fault.old
         (initial_outside (written_signed lo.now) (written_signed hi.now)
         (written_signed initial.now)) }
 {
@@ -110,5 +110,5 @@ pub(crate) fn report_initial_outside(
         certain_signed(hi),
         certain_signed(initial),
     );
-    told.note(!inside, StaticKind::InitialOutside, initial.at);
+    fault.note(!inside, StaticKind::InitialOutside, initial.at);
 }

@@ -7,7 +7,7 @@ ghost use Rattle.model_core.specs.Static.FaultOrder.{earliest_fault};
 ghost use Rattle.model_core.specs.Static.PartFaults.{change_place};
 ghost use Rattle.model_core.specs.Static.RuleTable.{too_many};
 
-use crate::told::FirstFault;
+use crate::first_fault::FirstFault;
 use model_core::{
     RawChange, RawEdge, RawName, RawRow, RawTable, RawTarget, RawVar, RawVertex, StaticKind,
 };
@@ -29,12 +29,12 @@ pub trait Placed {
 }
 
 /// Reports the first part beyond a limit.
-pub(crate) fn report_too_many<T: Placed>(limit: usize, parts: &[T], told: &mut FirstFault)
-    ensures { told.new
-        ≡ earliest_fault told.old (too_many limit (map T.begins (map T.written parts.now))) }
+pub(crate) fn report_too_many<T: Placed>(limit: usize, parts: &[T], fault: &mut FirstFault)
+    ensures { fault.new
+        ≡ earliest_fault fault.old (too_many limit (map T.begins (map T.written parts.now))) }
 {
     if let Some(part) = parts.get(limit) {
-        told.note(true, StaticKind::TooMany, part.place());
+        fault.note(true, StaticKind::TooMany, part.place());
     }
 }
 

@@ -8,7 +8,7 @@ ghost use Rattle.model_core.specs.Static.FaultOrder.{earliest_fault};
 ghost use Rattle.model_core.specs.Static.PartFaults.{repeated_names};
 ghost use Rattle.sig_types.specs.Seen.{bytes_of};
 
-use crate::told::FirstFault;
+use crate::first_fault::FirstFault;
 use indexmap::IndexSet;
 use model_core::{RawName, StaticKind};
 use sig_base::NoMemory;
@@ -30,12 +30,12 @@ fn is_among(raws: &[RawName], name: &[u8]) -> bool
 }
 
 /// Reports each name that occurs earlier in a short list.
-fn report_few_repeats(raws: &[RawName], told: &mut FirstFault)
-    ensures { told.new ≡ earliest_fault told.old (repeated_names [] (map written_name raws.now)) }
+fn report_few_repeats(raws: &[RawName], fault: &mut FirstFault)
+    ensures { fault.new ≡ earliest_fault fault.old (repeated_names [] (map written_name raws.now)) }
 {
     for (place, raw) in raws.iter().enumerate() {
         let again = is_among(&raws[..place], raw.name.as_slice());
-        told.note(again, StaticKind::DuplicateName, raw.at);
+        fault.note(again, StaticKind::DuplicateName, raw.at);
     }
 }
 
@@ -43,15 +43,15 @@ fn report_few_repeats(raws: &[RawName], told: &mut FirstFault)
 fn report_many_repeats(
     alloc: Global,
     raws: &[RawName],
-    told: &mut FirstFault,
+    fault: &mut FirstFault,
 ) -> Result<(), NoMemory>
     ensures { OnOk result
-        (told.new ≡ earliest_fault told.old (repeated_names [] (map written_name raws.now))) }
+        (fault.new ≡ earliest_fault fault.old (repeated_names [] (map written_name raws.now))) }
 {
     let mut earlier = IndexSet::with_capacity(alloc, raws.len())?;
     for raw in raws {
         let added = earlier.insert(raw.name.as_slice())?;
-        told.note(!added, StaticKind::DuplicateName, raw.at);
+        fault.note(!added, StaticKind::DuplicateName, raw.at);
     }
     Ok(())
 }
@@ -60,14 +60,14 @@ fn report_many_repeats(
 pub(crate) fn report_repeats(
     alloc: Global,
     raws: &[RawName],
-    told: &mut FirstFault,
+    fault: &mut FirstFault,
 ) -> Result<(), NoMemory>
     ensures { OnOk result
-        (told.new ≡ earliest_fault told.old (repeated_names [] (map written_name raws.now))) }
+        (fault.new ≡ earliest_fault fault.old (repeated_names [] (map written_name raws.now))) }
 {
     if raws.len() <= SHORT_LIST {
-        report_few_repeats(raws, told);
+        report_few_repeats(raws, fault);
         return Ok(());
     }
-    report_many_repeats(alloc, raws, told)
+    report_many_repeats(alloc, raws, fault)
 }

@@ -13,26 +13,26 @@ ghost use Rattle.model_core.specs.Static.PartFaults.{rows_faults, table_faults};
 ghost use Rattle.static_laws.specs.Checked.{CheckedPlain};
 
 use crate::declaring::report_long_name;
+use crate::first_fault::FirstFault;
 use crate::numbers::{certain_number, literal};
 use crate::placed::report_too_many;
-use crate::told::FirstFault;
 use model_core::{RawNumber, RawRow, RawTable, StaticKind};
 use sig_base::{List, NoMemory, ROWS_MAX, Row, Table, WEIGHTS_MAX};
 use std::alloc::Global;
 
 /// A weight, where those before it in its table sum to `before`. Below 0, which no text spells, it counts as 0.
-fn weight(raw: &RawNumber, before: i128, told: &mut FirstFault) -> u64
+fn weight(raw: &RawNumber, before: i128, fault: &mut FirstFault) -> u64
     requires low { negsuc 85070591730234615865843651857942052864 ≤ℤ before }
     requires high { before ≤ℤ pos 85070591730234615865843651857942052864 }
-    ensures { CheckedPlain told.old told.new
+    ensures { CheckedPlain fault.old fault.new
         (number_too_large (written_number raw.now)
         ++ weight_outside before (written_number raw.now))
         (natural (written_number raw.now)) result }
 {
     let certain = certain_number(raw.value);
-    told.note(raw.value.is_none(), StaticKind::LiteralTooLarge, raw.at);
+    fault.note(raw.value.is_none(), StaticKind::LiteralTooLarge, raw.at);
     let outside = is_outside(before, certain);
-    told.note(outside, StaticKind::WeightOutside, raw.at);
+    fault.note(outside, StaticKind::WeightOutside, raw.at);
     if certain < 0 { 0 } else { certain as u64 }
 }
 
@@ -48,17 +48,17 @@ fn is_outside(before: i128, weight: i128) -> bool
 }
 
 /// A row after others whose weights have this sum.
-fn row(raw: &RawRow, before: i128, told: &mut FirstFault) -> Row
+fn row(raw: &RawRow, before: i128, fault: &mut FirstFault) -> Row
     requires low { negsuc 85070591730234615865843651857942052864 ≤ℤ before }
     requires high { before ≤ℤ pos 85070591730234615865843651857942052864 }
-    ensures { CheckedPlain told.old told.new
+    ensures { CheckedPlain fault.old fault.new
         (literal_too_large (written_row raw.now).value
         ++ number_too_large (written_row raw.now).weight
         ++ weight_outside before (written_row raw.now).weight)
         (numbering.row (written_row raw.now)) (weighted_of result) }
 {
-    let value = literal(&raw.value, told);
-    let weight = weight(&raw.weight, before, told);
+    let value = literal(&raw.value, fault);
+    let weight = weight(&raw.weight, before, fault);
     Row { value, weight }
 }
 
@@ -74,38 +74,38 @@ fn with_weight(before: i128, raw: &RawRow) -> i128
 }
 
 /// The rows of a table.
-fn rows(alloc: Global, raws: &[RawRow], told: &mut FirstFault) -> Result<List<Row>, NoMemory>
+fn rows(alloc: Global, raws: &[RawRow], fault: &mut FirstFault) -> Result<List<Row>, NoMemory>
     ensures { IfOk result
-        (λ rows. CheckedPlain told.old told.new (rows_faults (pos 0) (map written_row raws.now))
+        (λ rows. CheckedPlain fault.old fault.new (rows_faults (pos 0) (map written_row raws.now))
         (each_numbered numbering.row (map written_row raws.now)) (map weighted_of rows)) }
 {
     let mut rows = Vec::with_capacity(alloc, raws.len())?;
     let mut sum = 0;
     for raw in raws {
-        rows.push(row(raw, sum, told))?;
+        rows.push(row(raw, sum, fault))?;
         sum = with_weight(sum, raw);
     }
     Ok(List::from_vec(rows))
 }
 
 /// The rows of a table. Faults of its name and of its length are reported.
-fn rows_of(alloc: Global, raw: &RawTable, told: &mut FirstFault) -> Result<List<Row>, NoMemory>
+fn rows_of(alloc: Global, raw: &RawTable, fault: &mut FirstFault) -> Result<List<Row>, NoMemory>
     ensures { IfOk result
-        (λ rows. CheckedPlain told.old told.new (table_faults (written_table raw.now))
+        (λ rows. CheckedPlain fault.old fault.new (table_faults (written_table raw.now))
         (each_numbered numbering.row (written_table raw.now).rows) (map weighted_of rows)) }
 {
-    report_long_name(&raw.name, told);
-    report_too_many(ROWS_MAX, raw.rows.as_slice(), told);
-    rows(alloc, raw.rows.as_slice(), told)
+    report_long_name(&raw.name, fault);
+    report_too_many(ROWS_MAX, raw.rows.as_slice(), fault);
+    rows(alloc, raw.rows.as_slice(), fault)
 }
 
 /// A table.
-fn table(alloc: Global, raw: RawTable, told: &mut FirstFault) -> Result<Table, NoMemory>
+fn table(alloc: Global, raw: RawTable, fault: &mut FirstFault) -> Result<Table, NoMemory>
     ensures { IfOk result
-        (λ t. CheckedPlain told.old told.new (table_faults (written_table raw))
+        (λ t. CheckedPlain fault.old fault.new (table_faults (written_table raw))
         (numbering.table (written_table raw)) (table_of t)) }
 {
-    let rows = rows_of(alloc, &raw, told)?;
+    let rows = rows_of(alloc, &raw, fault)?;
     Table::of_rows(alloc, raw.name.name, rows)
 }
 
@@ -113,15 +113,15 @@ fn table(alloc: Global, raw: RawTable, told: &mut FirstFault) -> Result<Table, N
 pub(crate) fn check_tables(
     alloc: Global,
     raws: List<RawTable>,
-    told: &mut FirstFault,
+    fault: &mut FirstFault,
 ) -> Result<List<Table>, NoMemory>
     ensures { IfOk result
-        (λ tables. CheckedPlain told.old told.new (flat_map table_faults (map written_table raws))
+        (λ tables. CheckedPlain fault.old fault.new (flat_map table_faults (map written_table raws))
         (each_numbered numbering.table (map written_table raws)) (map table_of tables)) }
 {
     let mut tables = Vec::with_capacity(alloc, raws.len())?;
     for raw in raws.into_vec() {
-        let table = table(alloc, raw, told)?;
+        let table = table(alloc, raw, fault)?;
         tables.push(table)?;
     }
     Ok(List::from_vec(tables))

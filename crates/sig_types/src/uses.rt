@@ -16,9 +16,9 @@ ghost use Rattle.static_laws.specs.Checked.{CheckedPart};
 ghost use Rattle.sig_types.specs.Seen.{meaning_seen, role_seen};
 ghost use Rattle.static_laws.specs.Roles.{variable_role, vertex_meant};
 
+use crate::first_fault::FirstFault;
 use crate::kinds::Typed;
 use crate::names::{Meaning, Names};
-use crate::told::FirstFault;
 use model_core::{Kind, RawName, StaticKind, Watch};
 use sig_base::NAME_MAX;
 
@@ -49,20 +49,26 @@ fn is_fit(role: Role, meaning: Meaning) -> bool
 
 /// What the name that these bytes spell means, at this place and used so.
 #[inline(always)]
-fn used(names: &Names, role: Role, name: &[u8], at: usize, told: &mut FirstFault) -> Option<Meaning>
-    ensures told { told.new
-        ≡ earliest_fault told.old
+fn used(
+    names: &Names,
+    role: Role,
+    name: &[u8],
+    at: usize,
+    fault: &mut FirstFault,
+) -> Option<Meaning>
+    ensures earliest { fault.new
+        ≡ earliest_fault fault.old
         (use_faults (meaning_of names.now) (role_seen role) (record { name = name.now; at = at })) }
     ensures means { option_map meaning_seen result ≡ meaning_of names.now name.now }
 {
-    told.note(name.len() > NAME_MAX, StaticKind::NameTooLong, at);
+    fault.note(name.len() > NAME_MAX, StaticKind::NameTooLong, at);
     let meaning = names.find(name);
-    told.note(meaning.is_none(), StaticKind::UnknownName, at);
+    fault.note(meaning.is_none(), StaticKind::UnknownName, at);
     let misused = match meaning {
         None => false,
         Some(meaning) => !is_fit(role, meaning),
     };
-    told.note(misused, StaticKind::WrongUse, at);
+    fault.note(misused, StaticKind::WrongUse, at);
     meaning
 }
 
@@ -99,9 +105,9 @@ pub fn spelled_variable(
     is_array: bool,
     name: &[u8],
     at: usize,
-    told: &mut FirstFault,
+    fault: &mut FirstFault,
 ) -> Typed<usize>
-    ensures checked { CheckedPart (meaning_of names.now) told.old told.new
+    ensures checked { CheckedPart (meaning_of names.now) fault.old fault.new
         (use_faults (meaning_of names.now) (variable_role is_array)
         (record { name = name.now; at = at }))
         (λ d. declared_place name.now d.variables) result.part }
@@ -109,7 +115,7 @@ pub fn spelled_variable(
         ≡ kind_in_role (variable_role is_array) (meaning_of names.now name.now) }
 {
     let role = if is_array { Role::Array } else { Role::Scalar };
-    let meaning = used(names, role, name, at, told);
+    let meaning = used(names, role, name, at, fault);
     variable_meant(meaning, is_array)
 }
 
@@ -118,15 +124,15 @@ pub(crate) fn variable(
     names: &Names,
     is_array: bool,
     raw: &RawName,
-    told: &mut FirstFault,
+    fault: &mut FirstFault,
 ) -> Typed<usize>
-    ensures checked { CheckedPart (meaning_of names.now) told.old told.new
+    ensures checked { CheckedPart (meaning_of names.now) fault.old fault.new
         (use_faults (meaning_of names.now) (variable_role is_array) (written_name raw.now))
         (λ d. declared_place raw.now.name d.variables) result.part }
     ensures kind { result.kind
         ≡ kind_in_role (variable_role is_array) (meaning_of names.now raw.now.name) }
 {
-    spelled_variable(names, is_array, raw.name.as_slice(), raw.at, told)
+    spelled_variable(names, is_array, raw.name.as_slice(), raw.at, fault)
 }
 
 /// The kind of a scalar of this name.
@@ -148,12 +154,12 @@ fn table_meant(meaning: Option<Meaning>) -> usize
 }
 
 /// A name that is used as a table.
-pub(crate) fn table(names: &Names, raw: &RawName, told: &mut FirstFault) -> usize
-    ensures { CheckedPart (meaning_of names.now) told.old told.new
+pub(crate) fn table(names: &Names, raw: &RawName, fault: &mut FirstFault) -> usize
+    ensures { CheckedPart (meaning_of names.now) fault.old fault.new
         (use_faults (meaning_of names.now) AsTable (written_name raw.now))
         (λ d. declared_place raw.now.name d.tables) result }
 {
-    let meaning = used(names, Role::Table, raw.name.as_slice(), raw.at, told);
+    let meaning = used(names, Role::Table, raw.name.as_slice(), raw.at, fault);
     table_meant(meaning)
 }
 
@@ -168,24 +174,29 @@ fn place_of_vertex(meaning: Option<Meaning>) -> Option<usize>
 }
 
 /// A name that is used as a vertex, where it is in the text. `None` where it isn't one.
-pub fn spelled_vertex(names: &Names, name: &[u8], at: usize, told: &mut FirstFault) -> Option<usize>
-    ensures checked { CheckedPart (meaning_of names.now) told.old told.new
+pub fn spelled_vertex(
+    names: &Names,
+    name: &[u8],
+    at: usize,
+    fault: &mut FirstFault,
+) -> Option<usize>
+    ensures checked { CheckedPart (meaning_of names.now) fault.old fault.new
         (use_faults (meaning_of names.now) AsVertex (record { name = name.now; at = at }))
         (λ d. option_map (λ k. Some k) (declared_place name.now d.vertices)) result }
     ensures means { result ≡ vertex_meant (meaning_of names.now name.now) }
 {
-    let meaning = used(names, Role::Vertex, name, at, told);
+    let meaning = used(names, Role::Vertex, name, at, fault);
     place_of_vertex(meaning)
 }
 
 /// A name that is used as a vertex. `None` where it isn't one.
-pub(crate) fn vertex(names: &Names, raw: &RawName, told: &mut FirstFault) -> Option<usize>
-    ensures checked { CheckedPart (meaning_of names.now) told.old told.new
+pub(crate) fn vertex(names: &Names, raw: &RawName, fault: &mut FirstFault) -> Option<usize>
+    ensures checked { CheckedPart (meaning_of names.now) fault.old fault.new
         (use_faults (meaning_of names.now) AsVertex (written_name raw.now))
         (λ d. option_map (λ k. Some k) (declared_place raw.now.name d.vertices)) result }
     ensures means { result ≡ vertex_meant (meaning_of names.now raw.now.name) }
 {
-    spelled_vertex(names, raw.name.as_slice(), raw.at, told)
+    spelled_vertex(names, raw.name.as_slice(), raw.at, fault)
 }
 
 /// What is watched. Of what can't be watched the first variable.
@@ -204,11 +215,11 @@ fn watch_meant(meaning: Option<Meaning>) -> Watch
 }
 
 /// A name that is watched.
-pub(crate) fn watched(names: &Names, raw: &RawName, told: &mut FirstFault) -> Watch
-    ensures { CheckedPart (meaning_of names.now) told.old told.new
+pub(crate) fn watched(names: &Names, raw: &RawName, fault: &mut FirstFault) -> Watch
+    ensures { CheckedPart (meaning_of names.now) fault.old fault.new
         (use_faults (meaning_of names.now) AsWatched (written_name raw.now))
         (λ d. numbering.watched d (written_name raw.now)) (watched_of result) }
 {
-    let meaning = used(names, Role::Watched, raw.name.as_slice(), raw.at, told);
+    let meaning = used(names, Role::Watched, raw.name.as_slice(), raw.at, fault);
     watch_meant(meaning)
 }

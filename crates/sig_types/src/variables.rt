@@ -13,20 +13,20 @@ ghost use Rattle.static_laws.specs.Checked.{CheckedPlain};
 ghost use Rattle.sig_types.specs.Inner.HeldAsDeclared.{initial_faults, numbered_range};
 
 use crate::declaring::report_long_name;
+use crate::first_fault::FirstFault;
 use crate::numbers::{bounded, literal, report_empty_range, report_initial_outside};
-use crate::told::FirstFault;
 use model_core::{Kind, RawKind, RawLiteral, RawNumber, RawSigned, RawVar, StaticKind, Var};
 use sig_base::{ARRAY_CELLS_MAX, List, NoMemory};
 use std::alloc::Global;
 
 /// The number of cells of an array, and 0 of a scalar.
-fn size(raw: &Option<RawNumber>, told: &mut FirstFault) -> usize
-    ensures { CheckedPlain told.old told.new
+fn size(raw: &Option<RawNumber>, fault: &mut FirstFault) -> usize
+    ensures { CheckedPlain fault.old fault.new
         (if_written size_faults (option_map written_number raw.now))
         (numbering.size (option_map written_number raw.now)) result }
 {
     match raw {
-        Some(raw) => bounded(raw, 1, ARRAY_CELLS_MAX, StaticKind::SizeOutside, told),
+        Some(raw) => bounded(raw, 1, ARRAY_CELLS_MAX, StaticKind::SizeOutside, fault),
         None => 0,
     }
 }
@@ -42,15 +42,16 @@ pub struct Range {
 }
 
 /// A truth value.
-fn truth(initial: &RawLiteral, told: &mut FirstFault) -> Range
-    ensures { CheckedPlain told.old told.new (range_faults TruthKind (written_literal initial.now))
+fn truth(initial: &RawLiteral, fault: &mut FirstFault) -> Range
+    ensures { CheckedPlain fault.old fault.new
+        (range_faults TruthKind (written_literal initial.now))
         (numbered_range TruthKind (written_literal initial.now)) result }
 {
     let initial = match initial {
         RawLiteral::Truth { value, .. } => i64::from(*value),
         RawLiteral::Signed(signed) => {
-            told.note(true, StaticKind::KindMismatch, signed.at);
-            literal(signed, told)
+            fault.note(true, StaticKind::KindMismatch, signed.at);
+            literal(signed, fault)
         }
     };
     Range {
@@ -63,19 +64,19 @@ fn truth(initial: &RawLiteral, told: &mut FirstFault) -> Range
 }
 
 /// The initial value of a number.
-fn initial_number(lo: &RawSigned, hi: &RawSigned, raw: &RawLiteral, told: &mut FirstFault) -> i64
-    ensures { CheckedPlain told.old told.new
+fn initial_number(lo: &RawSigned, hi: &RawSigned, raw: &RawLiteral, fault: &mut FirstFault) -> i64
+    ensures { CheckedPlain fault.old fault.new
         (initial_faults (written_signed lo.now) (written_signed hi.now) (written_literal raw.now))
         (numbering.initial (written_literal raw.now)) result }
 {
     match raw {
         RawLiteral::Signed(signed) => {
-            let initial = literal(signed, told);
-            report_initial_outside(lo, hi, signed, told);
+            let initial = literal(signed, fault);
+            report_initial_outside(lo, hi, signed, fault);
             initial
         }
         RawLiteral::Truth { at, .. } => {
-            told.note(true, StaticKind::KindMismatch, *at);
+            fault.note(true, StaticKind::KindMismatch, *at);
             0
         }
     }
@@ -87,18 +88,18 @@ fn bounds(
     hi: &RawSigned,
     clip: bool,
     raw: &RawLiteral,
-    told: &mut FirstFault,
+    fault: &mut FirstFault,
 ) -> Range
-    ensures { CheckedPlain told.old told.new
+    ensures { CheckedPlain fault.old fault.new
         (range_faults (RangeKind (written_signed lo.now) (written_signed hi.now) clip)
         (written_literal raw.now))
         (numbered_range (RangeKind (written_signed lo.now) (written_signed hi.now) clip)
         (written_literal raw.now)) result }
 {
-    let least = literal(lo, told);
-    let most = literal(hi, told);
-    report_empty_range(lo, hi, told);
-    let initial = initial_number(lo, hi, raw, told);
+    let least = literal(lo, fault);
+    let most = literal(hi, fault);
+    report_empty_range(lo, hi, fault);
+    let initial = initial_number(lo, hi, raw, fault);
     Range {
         kind: Kind::Range,
         lo: least,
@@ -109,25 +110,25 @@ fn bounds(
 }
 
 /// What a variable holds, and its initial value.
-fn range_of(kind: &RawKind, initial: &RawLiteral, told: &mut FirstFault) -> Range
-    ensures { CheckedPlain told.old told.new
+fn range_of(kind: &RawKind, initial: &RawLiteral, fault: &mut FirstFault) -> Range
+    ensures { CheckedPlain fault.old fault.new
         (range_faults (written_kind kind.now) (written_literal initial.now))
         (numbered_range (written_kind kind.now) (written_literal initial.now)) result }
 {
     match kind {
-        RawKind::Truth => truth(initial, told),
-        RawKind::Range { lo, hi, clip } => bounds(lo, hi, *clip, initial, told),
+        RawKind::Truth => truth(initial, fault),
+        RawKind::Range { lo, hi, clip } => bounds(lo, hi, *clip, initial, fault),
     }
 }
 
 /// A variable.
-fn variable(raw: RawVar, told: &mut FirstFault) -> Var
-    ensures { CheckedPlain told.old told.new (variable_faults (written_variable raw))
+fn variable(raw: RawVar, fault: &mut FirstFault) -> Var
+    ensures { CheckedPlain fault.old fault.new (variable_faults (written_variable raw))
         (numbering.variable (written_variable raw)) (variable_of result) }
 {
-    report_long_name(&raw.name, told);
-    let size = size(&raw.size, told);
-    let range = range_of(&raw.kind, &raw.initial, told);
+    report_long_name(&raw.name, fault);
+    let size = size(&raw.size, fault);
+    let range = range_of(&raw.kind, &raw.initial, fault);
     Var {
         name: raw.name.name,
         size,
@@ -143,16 +144,16 @@ fn variable(raw: RawVar, told: &mut FirstFault) -> Var
 pub(crate) fn check_variables(
     alloc: Global,
     raws: List<RawVar>,
-    told: &mut FirstFault,
+    fault: &mut FirstFault,
 ) -> Result<List<Var>, NoMemory>
     ensures { IfOk result
-        (λ vars. CheckedPlain told.old told.new
+        (λ vars. CheckedPlain fault.old fault.new
         (flat_map variable_faults (map written_variable raws))
         (each_numbered numbering.variable (map written_variable raws)) (map variable_of vars)) }
 {
     let mut vars = Vec::with_capacity(alloc, raws.len())?;
     for raw in raws.into_vec() {
-        vars.push(variable(raw, told))?;
+        vars.push(variable(raw, fault))?;
     }
     Ok(List::from_vec(vars))
 }

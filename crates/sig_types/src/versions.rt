@@ -12,9 +12,9 @@ ghost use Rattle.model_core.specs.Static.PartFaults.{if_written};
 ghost use Rattle.model_core.specs.Static.VersionFaults.{is_version_two, number_faults, size_faults_version_1, target_faults_version_1, delay_faults_version_1, vertex_faults_version_1, faults_version_1, counted_cells, cells_faults, version_faults};
 
 use crate::edges::items;
+use crate::first_fault::FirstFault;
 use crate::numbers::{certain_number, lies_between};
 use crate::placed::report_too_many;
-use crate::told::FirstFault;
 use model_core::{
     RawChange, RawDelay, RawEdge, RawEdgeForm, RawModel, RawNumber, RawVar, RawVertex, StaticKind,
 };
@@ -34,114 +34,117 @@ fn is_version_two(raw: &Option<RawNumber>) -> bool
 }
 
 /// Reports an unknown version.
-fn report_unknown_version(raw: &Option<RawNumber>, told: &mut FirstFault)
-    ensures { told.new
-        ≡ earliest_fault told.old (if_written number_faults (option_map written_number raw.now)) }
+fn report_unknown_version(raw: &Option<RawNumber>, fault: &mut FirstFault)
+    ensures { fault.new
+        ≡ earliest_fault fault.old (if_written number_faults (option_map written_number raw.now)) }
 {
     if let Some(raw) = raw {
         let known = lies_between(1, 2, certain_number(raw.value));
-        told.note(raw.value.is_none(), StaticKind::LiteralTooLarge, raw.at);
-        told.note(!known, StaticKind::VersionUnknown, raw.at);
+        fault.note(raw.value.is_none(), StaticKind::LiteralTooLarge, raw.at);
+        fault.note(!known, StaticKind::VersionUnknown, raw.at);
     }
 }
 
 /// Reports an array of more cells than one of version 1 may have, or of none.
-fn report_array_size(raw: &RawVar, told: &mut FirstFault)
-    ensures { told.new
-        ≡ earliest_fault told.old (size_faults_version_1 (written_variable raw.now)) }
+fn report_array_size(raw: &RawVar, fault: &mut FirstFault)
+    ensures { fault.new
+        ≡ earliest_fault fault.old (size_faults_version_1 (written_variable raw.now)) }
 {
     if let Some(size) = &raw.size {
         let cells = certain_number(size.value);
         let inside = lies_between(1, ARRAY_CELLS_MAX_VERSION_1 as i128, cells);
-        told.note(!inside, StaticKind::SizeOutside, size.at);
+        fault.note(!inside, StaticKind::SizeOutside, size.at);
     }
 }
 
 /// Reports each of these arrays that has as many.
-fn report_array_sizes(raws: &[RawVar], told: &mut FirstFault)
-    ensures { told.new
-        ≡ earliest_fault told.old (flat_map size_faults_version_1 (map written_variable raws.now)) }
+fn report_array_sizes(raws: &[RawVar], fault: &mut FirstFault)
+    ensures { fault.new
+        ≡ earliest_fault fault.old
+        (flat_map size_faults_version_1 (map written_variable raws.now)) }
 {
     for raw in raws {
-        report_array_size(raw, told);
+        report_array_size(raw, fault);
     }
 }
 
 /// Reports the first target beyond those that a `set` of version 1 may have.
-fn report_target_count(raw: &RawChange, told: &mut FirstFault)
-    ensures { told.new
-        ≡ earliest_fault told.old (target_faults_version_1 (written_change raw.now)) }
+fn report_target_count(raw: &RawChange, fault: &mut FirstFault)
+    ensures { fault.new
+        ≡ earliest_fault fault.old (target_faults_version_1 (written_change raw.now)) }
 {
     match raw {
         RawChange::Set { targets, .. } => {
-            report_too_many(TARGETS_MAX_VERSION_1, targets.as_slice(), told);
+            report_too_many(TARGETS_MAX_VERSION_1, targets.as_slice(), fault);
         }
         RawChange::Draw { .. } => {}
     }
 }
 
 /// Reports it of each of these changes.
-fn report_target_counts(raws: &[RawChange], told: &mut FirstFault)
-    ensures { told.new
-        ≡ earliest_fault told.old (flat_map target_faults_version_1 (map written_change raws.now)) }
+fn report_target_counts(raws: &[RawChange], fault: &mut FirstFault)
+    ensures { fault.new
+        ≡ earliest_fault fault.old
+        (flat_map target_faults_version_1 (map written_change raws.now)) }
 {
     for raw in raws {
-        report_target_count(raw, told);
+        report_target_count(raw, fault);
     }
 }
 
 /// Reports the delay of an edge, at its word `draw`, where it is drawn.
-fn report_drawn_delay(raw: &RawEdgeForm, told: &mut FirstFault)
-    ensures { told.new
-        ≡ earliest_fault told.old (delay_faults_version_1 (written_edge_kind raw.now)) }
+fn report_drawn_delay(raw: &RawEdgeForm, fault: &mut FirstFault)
+    ensures { fault.new
+        ≡ earliest_fault fault.old (delay_faults_version_1 (written_edge_kind raw.now)) }
 {
     if let RawEdgeForm::Schedule {
         delay: Some(RawDelay::Drawn { at, .. }),
         ..
     } = raw
     {
-        told.note(true, StaticKind::VersionNeeded, *at);
+        fault.note(true, StaticKind::VersionNeeded, *at);
     }
 }
 
 /// Reports it of each of these edges.
-fn report_drawn_delays(raws: &[RawEdge], told: &mut FirstFault)
-    ensures { told.new
-        ≡ earliest_fault told.old
+fn report_drawn_delays(raws: &[RawEdge], fault: &mut FirstFault)
+    ensures { fault.new
+        ≡ earliest_fault fault.old
         (flat_map (λ (e : WrittenEdge). delay_faults_version_1 e.kind)
         (map written_edge raws.now)) }
 {
     for raw in raws {
-        report_drawn_delay(&raw.form, told);
+        report_drawn_delay(&raw.form, fault);
     }
 }
 
 /// Reports the first parameter beyond those that a vertex of version 1 may have, such targets, and delays that are drawn.
-fn report_vertex_limits(raw: &RawVertex, told: &mut FirstFault)
-    ensures { told.new
-        ≡ earliest_fault told.old (vertex_faults_version_1 (written_vertex raw.now)) }
+fn report_vertex_limits(raw: &RawVertex, fault: &mut FirstFault)
+    ensures { fault.new
+        ≡ earliest_fault fault.old (vertex_faults_version_1 (written_vertex raw.now)) }
 {
-    report_too_many(PARAMETERS_MAX_VERSION_1, items(&raw.params), told);
-    report_target_counts(raw.changes.as_slice(), told);
-    report_drawn_delays(raw.edges.as_slice(), told);
+    report_too_many(PARAMETERS_MAX_VERSION_1, items(&raw.params), fault);
+    report_target_counts(raw.changes.as_slice(), fault);
+    report_drawn_delays(raw.edges.as_slice(), fault);
 }
 
 /// Reports it of each of these vertices.
-fn report_vertices_limits(raws: &[RawVertex], told: &mut FirstFault)
-    ensures { told.new
-        ≡ earliest_fault told.old (flat_map vertex_faults_version_1 (map written_vertex raws.now)) }
+fn report_vertices_limits(raws: &[RawVertex], fault: &mut FirstFault)
+    ensures { fault.new
+        ≡ earliest_fault fault.old
+        (flat_map vertex_faults_version_1 (map written_vertex raws.now)) }
 {
     for raw in raws {
-        report_vertex_limits(raw, told);
+        report_vertex_limits(raw, fault);
     }
 }
 
 /// Reports what passes a limit of version 1, and delays that are drawn.
-fn report_version_1(raw: &RawModel, told: &mut FirstFault)
-    ensures { told.new ≡ earliest_fault told.old (faults_version_1 (written_model raw.now)) }
+fn report_version_1(raw: &RawModel, fault: &mut FirstFault)
+    ensures { fault.new ≡ earliest_fault fault.old (faults_version_1 (written_model raw.now)) }
 {
-    report_array_sizes(raw.vars.as_slice(), told);
-    report_vertices_limits(raw.vertices.as_slice(), told);
+    report_array_sizes(raw.vars.as_slice(), fault);
+    report_vertices_limits(raw.vertices.as_slice(), fault);
 }
 
 /// A size, where it is within the limit on one array, and else 0.
@@ -149,7 +152,7 @@ fn size_within(value: Option<i64>) -> usize
     ensures is { result
         ≡ option_map_or (λ n. cond (nat_le n cells_limit) n 0)
         (option_and_then natural_of value) 0 }
-    ensures few { result ≤ cells_limit }
+    ensures within_limit { result ≤ cells_limit }
 {
     match value {
         Some(cells) if 0 <= cells && cells <= ARRAY_CELLS_MAX as i64 => cells as usize,
@@ -160,7 +163,7 @@ fn size_within(value: Option<i64>) -> usize
 /// The cells of a variable that count among those of all arrays.
 fn cells(raw: &RawVar) -> usize
     ensures is { result ≡ counted_cells (written_variable raw.now) }
-    ensures few { result ≤ cells_limit }
+    ensures within_limit { result ≤ cells_limit }
 {
     match &raw.size {
         Some(size) => size_within(size.value),
@@ -169,27 +172,28 @@ fn cells(raw: &RawVar) -> usize
 }
 
 /// Reports the first array with which the cells of all arrays are too many.
-fn report_all_cells(raws: &[RawVar], told: &mut FirstFault)
-    ensures { told.new ≡ earliest_fault told.old (cells_faults 0 (map written_variable raws.now)) }
+fn report_all_cells(raws: &[RawVar], fault: &mut FirstFault)
+    ensures { fault.new
+        ≡ earliest_fault fault.old (cells_faults 0 (map written_variable raws.now)) }
 {
     let mut before = 0;
     for raw in raws {
         before += cells(raw);
         if before > CELLS_MAX {
-            told.note(true, StaticKind::TooMany, raw.at);
+            fault.note(true, StaticKind::TooMany, raw.at);
             return;
         }
     }
 }
 
 /// Reports an unknown version, and what a text of the version may not have.
-pub(crate) fn report_version(raw: &RawModel, told: &mut FirstFault)
-    ensures { told.new ≡ earliest_fault told.old (version_faults (written_model raw.now)) }
+pub(crate) fn report_version(raw: &RawModel, fault: &mut FirstFault)
+    ensures { fault.new ≡ earliest_fault fault.old (version_faults (written_model raw.now)) }
 {
-    report_unknown_version(&raw.version, told);
+    report_unknown_version(&raw.version, fault);
     if is_version_two(&raw.version) {
-        report_all_cells(raw.vars.as_slice(), told);
+        report_all_cells(raw.vars.as_slice(), fault);
     } else {
-        report_version_1(raw, told);
+        report_version_1(raw, fault);
     }
 }

@@ -13,10 +13,10 @@ ghost use Rattle.static_laws.specs.Checked.{CheckedPart};
 use crate::changes::changes;
 use crate::declaring::report_long_name;
 use crate::edges::{edges, items};
+use crate::first_fault::FirstFault;
 use crate::names::Names;
 use crate::placed::report_too_many;
 use crate::repeats::report_repeats;
-use crate::told::FirstFault;
 use crate::uses::{kind_of_scalar, variable};
 use model_core::{Change, Edge, Kind, RawName, RawVertex, Vertex};
 use sig_base::{CHANGES_MAX, EDGES_MAX, List, NoMemory, PARAMETERS_MAX};
@@ -55,16 +55,16 @@ fn numbers_of(
     alloc: Global,
     names: &Names,
     raws: &[RawName],
-    told: &mut FirstFault,
+    fault: &mut FirstFault,
 ) -> Result<List<usize>, NoMemory>
     ensures { IfOk result
-        (λ vars. CheckedPart (meaning_of names.now) told.old told.new
+        (λ vars. CheckedPart (meaning_of names.now) fault.old fault.new
         (flat_map (use_faults (meaning_of names.now) AsScalar) (map written_name raws.now))
         (λ d. each_numbered (numbering.numbered_parameter d) (map written_name raws.now)) vars) }
 {
     let mut vars = Vec::with_capacity(alloc, raws.len())?;
     for raw in raws {
-        let var = variable(names, false, raw, told);
+        let var = variable(names, false, raw, fault);
         vars.push(var.part)?;
     }
     Ok(List::from_vec(vars))
@@ -75,16 +75,16 @@ pub fn parameters(
     alloc: Global,
     names: &Names,
     raws: &[RawName],
-    told: &mut FirstFault,
+    fault: &mut FirstFault,
 ) -> Result<List<usize>, NoMemory>
     ensures { IfOk result
-        (λ vars. CheckedPart (meaning_of names.now) told.old told.new
+        (λ vars. CheckedPart (meaning_of names.now) fault.old fault.new
         (parameters_faults (meaning_of names.now) [] (map written_name raws.now))
         (λ d. each_numbered (numbering.numbered_parameter d) (map written_name raws.now)) vars) }
 {
-    report_too_many(PARAMETERS_MAX, raws, told);
-    let vars = numbers_of(alloc, names, raws, told)?;
-    report_repeats(alloc, raws, told)?;
+    report_too_many(PARAMETERS_MAX, raws, fault);
+    let vars = numbers_of(alloc, names, raws, fault)?;
+    report_repeats(alloc, raws, fault)?;
     Ok(vars)
 }
 
@@ -102,20 +102,25 @@ fn parts_of(
     names: &Names,
     taken: &[List<Option<Kind>>],
     raw: &RawVertex,
-    told: &mut FirstFault,
+    fault: &mut FirstFault,
 ) -> Result<VertexParts, NoMemory>
     ensures { IfOk result
-        (λ v. CheckedPart (meaning_of names.now) told.old told.new
+        (λ v. CheckedPart (meaning_of names.now) fault.old fault.new
         (vertex_faults (meaning_of names.now) taken.now (written_vertex raw.now))
         (λ d. numbering.vertex d (written_vertex raw.now))
-        (record { name = raw.now.name.name; parameters = v.params; changes = map change_of v.changes; edges = map edge_of v.edges })) }
+        (record {
+          name = raw.now.name.name;
+          parameters = v.params;
+          changes = map change_of v.changes;
+          edges = map edge_of v.edges;
+        })) }
 {
-    report_long_name(&raw.name, told);
-    let params = parameters(alloc, names, items(&raw.params), told)?;
-    report_too_many(CHANGES_MAX, raw.changes.as_slice(), told);
-    let changes = changes(alloc, names, raw.changes.as_slice(), told)?;
-    report_too_many(EDGES_MAX, raw.edges.as_slice(), told);
-    let edges = edges(alloc, names, taken, raw.edges.as_slice(), told)?;
+    report_long_name(&raw.name, fault);
+    let params = parameters(alloc, names, items(&raw.params), fault)?;
+    report_too_many(CHANGES_MAX, raw.changes.as_slice(), fault);
+    let changes = changes(alloc, names, raw.changes.as_slice(), fault)?;
+    report_too_many(EDGES_MAX, raw.edges.as_slice(), fault);
+    let edges = edges(alloc, names, taken, raw.edges.as_slice(), fault)?;
     Ok(VertexParts {
         params,
         changes,
@@ -129,14 +134,14 @@ fn vertex(
     names: &Names,
     taken: &[List<Option<Kind>>],
     raw: RawVertex,
-    told: &mut FirstFault,
+    fault: &mut FirstFault,
 ) -> Result<Vertex, NoMemory>
     ensures { IfOk result
-        (λ v. CheckedPart (meaning_of names.now) told.old told.new
+        (λ v. CheckedPart (meaning_of names.now) fault.old fault.new
         (vertex_faults (meaning_of names.now) taken.now (written_vertex raw))
         (λ d. numbering.vertex d (written_vertex raw)) (vertex_of v)) }
 {
-    let parts = parts_of(alloc, names, taken, &raw, told)?;
+    let parts = parts_of(alloc, names, taken, &raw, fault)?;
     Ok(Vertex {
         name: raw.name.name,
         params: parts.params,
@@ -151,16 +156,16 @@ pub fn vertices(
     names: &Names,
     taken: &[List<Option<Kind>>],
     raws: List<RawVertex>,
-    told: &mut FirstFault,
+    fault: &mut FirstFault,
 ) -> Result<List<Vertex>, NoMemory>
     ensures { IfOk result
-        (λ vs. CheckedPart (meaning_of names.now) told.old told.new
+        (λ vs. CheckedPart (meaning_of names.now) fault.old fault.new
         (flat_map (vertex_faults (meaning_of names.now) taken.now) (map written_vertex raws))
         (λ d. each_numbered (numbering.vertex d) (map written_vertex raws)) (map vertex_of vs)) }
 {
     let mut vertices = Vec::with_capacity(alloc, raws.len())?;
     for raw in raws.into_vec() {
-        let vertex = vertex(alloc, names, taken, raw, told)?;
+        let vertex = vertex(alloc, names, taken, raw, fault)?;
         vertices.push(vertex)?;
     }
     Ok(List::from_vec(vertices))

@@ -6,33 +6,33 @@ use Rattle.model_core.specs.Static.Meanings.{Meaning}
 use Rattle.model_core.proofs.EmptyLists.{left_empty, right_empty}
 use Rattle.static_laws.specs.Checked.{Checked, NumberedAs, CheckedPart, CheckedPlain}
 
-earliest-append : (told : Option StaticFault) (fs gs : List StaticFault) → earliest_fault told (fs ++ gs) ≡ earliest_fault (earliest_fault told fs) gs
-earliest-append told [] gs = refl
-earliest-append told (f ∷ fs) gs = earliest-append (earlier_fault told f) fs gs
+earliest-append : (so_far : Option StaticFault) (fs gs : List StaticFault) → earliest_fault so_far (fs ++ gs) ≡ earliest_fault (earliest_fault so_far fs) gs
+earliest-append so_far [] gs = refl
+earliest-append so_far (f ∷ fs) gs = earliest-append (earlier_fault so_far f) fs gs
 
 -- ---- first faults of parts, one after another
 
-pub told_both : (t0 t1 t2 : Option StaticFault) (fs gs : List StaticFault) → t1 ≡ earliest_fault t0 fs → t2 ≡ earliest_fault t1 gs → t2 ≡ earliest_fault t0 (fs ++ gs)
-told_both t0 t1 t2 fs gs e f = f ∙ ap (λ t. earliest_fault t gs) e ∙ sym (earliest-append t0 fs gs)
+pub earliest_in_turn : (t0 t1 t2 : Option StaticFault) (fs gs : List StaticFault) → t1 ≡ earliest_fault t0 fs → t2 ≡ earliest_fault t1 gs → t2 ≡ earliest_fault t0 (fs ++ gs)
+earliest_in_turn t0 t1 t2 fs gs e f = f ∙ ap (λ t. earliest_fault t gs) e ∙ sym (earliest-append t0 fs gs)
 
 -- two parts, one after the other
 pub both : {t0 t1 t2 : Option StaticFault} {fs gs : List StaticFault} {P Q : Type 0} → Checked t0 t1 fs P → Checked t1 t2 gs Q → Checked t0 t2 (fs ++ gs) (P × Q)
 both {t0 = t0} {t1 = t1} {t2 = t2} {fs = fs} {gs = gs} c d = record {
-  told = told_both t0 t1 t2 fs gs c.told d.told;
+  earliest = earliest_in_turn t0 t1 t2 fs gs c.earliest d.earliest;
   unbroken = λ e. (c.unbroken (left_empty fs gs e), d.unbroken (right_empty fs gs e));
 }
 
 -- what follows from what holds
 pub made : {t0 t1 : Option StaticFault} {fs : List StaticFault} {P Q : Type 0} → (P → Q) → Checked t0 t1 fs P → Checked t0 t1 fs Q
-made h c = record { told = c.told; unbroken = λ e. h (c.unbroken e) }
+made h c = record { earliest = c.earliest; unbroken = λ e. h (c.unbroken e) }
 
 -- faults alone
 pub noted : (t0 t1 : Option StaticFault) (fs : List StaticFault) → t1 ≡ earliest_fault t0 fs → Checked t0 t1 fs (fs ≡ [])
-noted t0 t1 fs e = record { told = e; unbroken = λ h. h }
+noted t0 t1 fs e = record { earliest = e; unbroken = λ h. h }
 
 -- a part with more faults before it
-pub behind : (t0 : Option StaticFault) {t1 t2 : Option StaticFault} {gs : List StaticFault} {P : Type 0} (fs : List StaticFault) → t1 ≡ earliest_fault t0 fs → Checked t1 t2 gs P → Checked t0 t2 (fs ++ gs) P
-behind t0 {t1 = t1} fs e c = made (λ p. p.1) (both (noted t0 t1 fs e) c)
+pub after_faults : (t0 : Option StaticFault) {t1 t2 : Option StaticFault} {gs : List StaticFault} {P : Type 0} (fs : List StaticFault) → t1 ≡ earliest_fault t0 fs → Checked t1 t2 gs P → Checked t0 t2 (fs ++ gs) P
+after_faults t0 {t1 = t1} fs e c = made (λ p. p.1) (both (noted t0 t1 fs e) c)
 
 -- a part with more faults after it
 pub before : {t0 t1 : Option StaticFault} (t2 : Option StaticFault) {fs : List StaticFault} {P : Type 0} (gs : List StaticFault) → Checked t0 t1 fs P → t2 ≡ earliest_fault t1 gs → Checked t0 t2 (fs ++ gs) P

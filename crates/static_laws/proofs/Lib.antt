@@ -1,7 +1,7 @@
-pub mod ToldFaults
+pub mod EarliestFaults
 pub mod NamedPlaces
 pub mod StaticTwins
-pub mod OneFaultTold
+pub mod OneFirstFault
 pub mod Checks
 pub mod LeftOut
 pub mod ListChecks

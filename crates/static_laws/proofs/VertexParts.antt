@@ -13,7 +13,7 @@ use Rattle.model_core.specs.Static.RuleTable.{name_too_long, too_many}
 use Rattle.model_core.specs.Static.PartFaults.{written_items, repeated_names, change_place, use_faults, change_faults, edge_faults, parameters_faults, vertex_faults}
 use Rattle.static_laws.specs.Checked.{CheckedPart}
 use Rattle.static_laws.proofs.LeftOut.{each_numbered-items}
-use Rattle.static_laws.proofs.Checks.{both, made, before, behind, three_numbered}
+use Rattle.static_laws.proofs.Checks.{both, made, before, after_faults, three_numbered}
 
 module _ (means : List ℕ → Option Meaning) where
   pub parameters_checked : (t0 t1 t2 t3 : Option StaticFault) (ns : List WrittenName) (xs : List ℕ)
@@ -21,7 +21,7 @@ module _ (means : List ℕ → Option Meaning) where
       → CheckedPart means t1 t2 (flat_map (use_faults means AsScalar) ns) (λ d. each_numbered (numbering.numbered_parameter d) ns) xs
       → t3 ≡ earliest_fault t2 (repeated_names [] ns)
       → CheckedPart means t0 t3 (parameters_faults means [] ns) (λ d. each_numbered (numbering.numbered_parameter d) ns) xs
-  parameters_checked t0 t1 t2 t3 ns xs short c repeated = before t3 (repeated_names [] ns) (behind t0 (too_many PARAMETERS_MAX (map (λ (n : WrittenName). n.at) ns)) short c) repeated
+  parameters_checked t0 t1 t2 t3 ns xs short c repeated = before t3 (repeated_names [] ns) (after_faults t0 (too_many PARAMETERS_MAX (map (λ (n : WrittenName). n.at) ns)) short c) repeated
 
   pub vertex_checked : (taken : List (List (Option Kind))) (t0 t1 t2 t3 t4 t5 t6 : Option StaticFault) (v : WrittenVertex) (ps : List ℕ) (xs : List graph.StateChange) (ys : List graph.EventEdge)
       → t1 ≡ earliest_fault t0 (name_too_long v.name)
@@ -35,4 +35,4 @@ module _ (means : List ℕ → Option Meaning) where
       made (λ h. three_numbered means (λ a b c. record { name = v.name.name; parameters = a; changes = b; edges = c })
       (λ d. written_or (each_numbered (numbering.numbered_parameter d)) [] v.parameters) (λ d. each_numbered (numbering.change d) v.changes) (λ d. each_numbered (numbering.edge d) v.edges)
       (λ d p. rw (← each_numbered-items (numbering.numbered_parameter d) v.parameters) (h.0.0 d p)) h.0.1 h.1)
-      (both (before t5 (too_many EDGES_MAX (map (λ (e : WrittenEdge). e.at) v.edges)) (both (before t3 (too_many CHANGES_MAX (map change_place v.changes)) (behind t0 (name_too_long v.name) named params) some) changes) few) edges)
+      (both (before t5 (too_many EDGES_MAX (map (λ (e : WrittenEdge). e.at) v.edges)) (both (before t3 (too_many CHANGES_MAX (map change_place v.changes)) (after_faults t0 (name_too_long v.name) named params) some) changes) few) edges)

@@ -15,12 +15,12 @@ use Rattle.model_core.specs.Static.ModelFaults.{model_meaning, model_takes, watc
 use Rattle.model_core.specs.Static.VersionFaults.{version_faults}
 use Rattle.model_core.proofs.EmptyLists.{left_empty}
 use Rattle.static_laws.proofs.NamedPlaces.{placed_as}
-use Rattle.static_laws.proofs.ToldFaults.{none_told}
-use Rattle.static_laws.proofs.OneFaultTold.{either_order, accepted_or_first_fault}
+use Rattle.static_laws.proofs.EarliestFaults.{earliest_fault-none}
+use Rattle.static_laws.proofs.OneFirstFault.{either_order, accepted_or_first_fault}
 use Rattle.static_laws.specs.Checked.{Checked, CheckedPart, CheckedPlain}
 use Rattle.static_laws.specs.DeclaredFaults.{faults_of_declared}
 use Rattle.static_laws.proofs.LeftOut.{each_numbered-items}
-use Rattle.static_laws.proofs.Checks.{both, made, behind}
+use Rattle.static_laws.proofs.Checks.{both, made, after_faults}
 
 module _ (m : WrittenModel) where
   pub model_checked : (t0 t1 t2 t3 t4 t5 : Option StaticFault) (xs : List graph.Variable) (ts : List graph.WeightTable) (ws : List graph.Watched) (vs : List graph.EventVertex)
@@ -35,29 +35,29 @@ module _ (m : WrittenModel) where
       let d = declared_by m in
       let w : written_or (each_numbered (numbering.watched d)) [] m.watch ≡ Some ws = sym (each_numbered-items (numbering.watched d) m.watch) ∙ h.0.1 d (placed_as m) in
       rw (h.0.0.0, h.0.0.1, w, h.1 d (placed_as m)) refl)
-      (both (both (both (behind t0 (faults_of_declared m) head variables) tables) watch) vertices)
+      (both (both (both (after_faults t0 (faults_of_declared m) head variables) tables) watch) vertices)
 
   -- the fault of the length, where there is no other
-  long_told : (g : EventGraph) → numbered m ≡ Some g → (fs : List StaticFault) → fs ≡ [] → or_too_long m TEXT_MAX fs ≡ model_too_long TEXT_MAX (canonical g) m.end_at
-  long_told g is fs none = ap (or_too_long m TEXT_MAX) none ∙ rw (or_too_long, is) refl
+  or_too_long-none : (g : EventGraph) → numbered m ≡ Some g → (fs : List StaticFault) → fs ≡ [] → or_too_long m TEXT_MAX fs ≡ model_too_long TEXT_MAX (canonical g) m.end_at
+  or_too_long-none g is fs none = ap (or_too_long m TEXT_MAX) none ∙ rw (or_too_long, is) refl
 
-  others_told : (fs : List StaticFault) (f : StaticFault) → earliest_fault None fs ≡ Some f → or_too_long m TEXT_MAX fs ≡ fs
-  others_told [] f e = cc
-  others_told (x ∷ fs) f e = refl
+  or_too_long-some : (fs : List StaticFault) (f : StaticFault) → earliest_fault None fs ≡ Some f → or_too_long m TEXT_MAX fs ≡ fs
+  or_too_long-some [] f e = cc
+  or_too_long-some (x ∷ fs) f e = refl
 
   -- the faults of the version may come before those of the parts
   pub version_first : {P : Type 0} (t0 t1 : Option StaticFault) → t0 ≡ earliest_fault None (version_faults m) → Checked t0 t1 (faults_of_parts m) P → Checked None t1 (faults_of_parts m ++ version_faults m) P
   version_first t0 t1 e c =
-      let b = behind None (version_faults m) e c in
-      record { told = b.told ∙ either_order (version_faults m) (faults_of_parts m); unbroken = λ n. c.unbroken (left_empty (faults_of_parts m) (version_faults m) n) }
+      let b = after_faults None (version_faults m) e c in
+      record { earliest = b.earliest ∙ either_order (version_faults m) (faults_of_parts m); unbroken = λ n. c.unbroken (left_empty (faults_of_parts m) (version_faults m) n) }
 
   -- with the fault of the length where there is no other, the first fault is that of the model
-  pub all_told : (g : EventGraph) (t1 t2 : Option StaticFault) → Checked None t1 (faults_of_parts m ++ version_faults m) (numbered m ≡ Some g)
+  pub first_fault-in_turn : (g : EventGraph) (t1 t2 : Option StaticFault) → Checked None t1 (faults_of_parts m ++ version_faults m) (numbered m ≡ Some g)
       → (t1 ≡ None → t2 ≡ earliest_fault None (model_too_long TEXT_MAX (canonical g) m.end_at)) → ((f : StaticFault) → t1 ≡ Some f → t2 ≡ t1) → t2 ≡ first_fault m
-  all_told g None t2 c none some =
-      let nothing = none_told (faults_of_parts m ++ version_faults m) (sym c.told) in
-      none refl ∙ ap (earliest_fault None) (sym (long_told g (c.unbroken nothing) (faults_of_parts m ++ version_faults m) nothing))
-  all_told g (Some f) t2 c none some = some f refl ∙ c.told ∙ ap (earliest_fault None) (sym (others_told (faults_of_parts m ++ version_faults m) f (sym c.told)))
+  first_fault-in_turn g None t2 c none some =
+      let nothing = earliest_fault-none (faults_of_parts m ++ version_faults m) (sym c.earliest) in
+      none refl ∙ ap (earliest_fault None) (sym (or_too_long-none g (c.unbroken nothing) (faults_of_parts m ++ version_faults m) nothing))
+  first_fault-in_turn g (Some f) t2 c none some = some f refl ∙ c.earliest ∙ ap (earliest_fault None) (sym (or_too_long-some (faults_of_parts m ++ version_faults m) f (sym c.earliest)))
 
   -- the parts of a model without a fault are numbered
   parts_unbroken : (fs : List StaticFault) → or_too_long m TEXT_MAX fs ≡ [] → fs ≡ []
@@ -67,5 +67,5 @@ module _ (m : WrittenModel) where
   pub is_accepted : (g : EventGraph) → (faults_of_parts m ≡ [] → numbered m ≡ Some g) → first_fault m ≡ None → Accepted m g
   is_accepted g numbers none =
       let (h, accepted) = (accepted_or_first_fault m).0 none in
-      let is : numbered m ≡ Some g = numbers (left_empty (faults_of_parts m) (version_faults m) (parts_unbroken (faults_of_parts m ++ version_faults m) (none_told (model_faults m) none))) in
+      let is : numbered m ≡ Some g = numbers (left_empty (faults_of_parts m) (version_faults m) (parts_unbroken (faults_of_parts m ++ version_faults m) (earliest_fault-none (model_faults m) none))) in
       record { unbroken = accepted.unbroken; numbers = is }

@@ -7,7 +7,7 @@ use Rattle.static_laws.specs.PlacedMeanings.{PlacedAs}
 
 -- the first of these faults is found, and where there is none something holds
 pub record Checked (before after : Option StaticFault) (faults : List StaticFault) (Holds : Type 0) : Type 0 where
-  pub told : after ≡ earliest_fault before faults
+  pub earliest : after ≡ earliest_fault before faults
   pub unbroken : faults ≡ [] → Holds
 
 -- among declarations to which names that mean this belong, the part has this number

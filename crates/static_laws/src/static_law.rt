@@ -13,7 +13,7 @@ ghost use Rattle.static_laws.specs.FitsVersion.{FitsVersion};
 /// A written model is accepted as a model, or it has exactly one first static fault: of those with the least
 /// place the first of the table.
 pub fn accepted_or_one_fault()
-    ensures told { (m : WrittenModel) (f : StaticFault)
+    ensures first { (m : WrittenModel) (f : StaticFault)
         → first_fault m ≡ Some f ↔ IsFirstFault m f.kind f.at }
     ensures accepted { (m : WrittenModel)
         → first_fault m ≡ None ↔ ((g : EventGraph) × Accepted m g) }

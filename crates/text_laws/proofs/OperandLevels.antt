@@ -1,8 +1,8 @@
 -- An expression is its first operand, and then operators with their right operands, level by level.
 use Rattle.std.proofs.Common.{◌≡◌, ℕ, zero, suc, ◌≤◌, true, false, List, refl, sym, ap, ◌∙◌, arith}
-use Rattle.std.specs.Prelude.{Ok, Err, nat_lt}
-use Rattle.std.proofs.lemmas.Grind.{common_steps}
+use Rattle.std.specs.Prelude.{Ok, Err}
 use Rattle.std.proofs.lemmas.Bool.{le-ltb}
+use Rattle.sig_base.proofs.Tests.{nat_lt-suc}
 use Rattle.model_core.specs.declared.token.Word.TheVariants as words
 use Rattle.model_core.specs.Text.Lexing.{Lexeme}
 use Rattle.model_core.specs.Text.Written.{WrittenExpression}
@@ -63,12 +63,9 @@ next-took : {A : Type 0} (r : Parse A) → and_next (λ a left. took a left) r �
 next-took (Ok r) = refl
 next-took (Err rest) = refl
 
-is_below : (m n : ℕ) → m ≤ n → nat_lt m (suc n) ≡ true
-is_below m n h = grind (arith, common_steps)
-
 pub climb-more : (level least : ℕ) (a : WrittenExpression) (tokens : List Lexeme) → least ≤ level → climb (suc level) least a tokens ≡ and_next (rung level) (climb level least a tokens)
 unfolding climb
-climb-more level least a tokens h = rw (is_below least level h) refl
+climb-more level least a tokens h = rw (nat_lt-suc least level h) refl
 
 pub climb-none : (under least : ℕ) (a : WrittenExpression) (tokens : List Lexeme) → under ≤ least → climb under least a tokens ≡ took a tokens
 unfolding climb

@@ -13,7 +13,7 @@ use Rattle.text_laws.specs.FormatReader.{took, and_next}
 use Rattle.text_laws.specs.LanguageReader.{level_lookahead}
 use Rattle.text_laws.proofs.Formats.TokenSorts.{begins-none}
 use Rattle.text_laws.proofs.Formats.RuleLaws.{same_next}
-use Rattle.text_laws.specs.Ladder.{infix_of_kind, infix_at, operators_of, operand_level, next_level, rung, climb, at_levels, behind}
+use Rattle.text_laws.specs.Ladder.{infix_of_kind, infix_at, operators_of, operand_level, next_level, rung, climb, at_levels, after_operator}
 use Rattle.text_laws.proofs.FirstOperator.{is_at}
 use Rattle.text_laws.proofs.OperandLevels.{next-next, of_level, climb-more, climb-none}
 use Rattle.text_laws.proofs.LevelOperators.{rung-none, at_level, rung-some}
@@ -107,7 +107,7 @@ one_operator (suc level) least k o a t tokens few low high e = go (λ l. one_ope
     go lower true f = here (eqb-true k level f)
     go lower false f = below (not_same k level f high) (lower (not_same k level f high))
 
-pub taken-is : (under least : ℕ) (a : WrittenExpression) (tokens left : List Lexeme) (i : ℕ × Operator) → under ≤ 5 → Some i ≡ at_levels least under (infix_at tokens) → left ≡ behind (at_levels least under (infix_at tokens)) tokens
+pub taken-is : (under least : ℕ) (a : WrittenExpression) (tokens left : List Lexeme) (i : ℕ × Operator) → under ≤ 5 → Some i ≡ at_levels least under (infix_at tokens) → left ≡ after_operator (at_levels least under (infix_at tokens)) tokens
     → climb under least a tokens ≡ and_next (λ b. climb under (next_level i.0) (joining a (i.1, b))) (of_level (operand_level i.0) left)
 taken-is under least a [] left i few e f = absurd cc
 taken-is under least a (t ∷ tokens) left i few e f =
@@ -115,11 +115,11 @@ taken-is under least a (t ∷ tokens) left i few e f =
     let w = within-in least under (infix_of_kind t.kind) i (sym e) in
     rw g (one_operator under least i.0 i.1 a t tokens few w.1 w.2 w.0)
 
-pub not-taken-is : (under least : ℕ) (a : WrittenExpression) (tokens left : List Lexeme) → under ≤ 5 → None ≡ at_levels least under (infix_at tokens) → left ≡ behind (at_levels least under (infix_at tokens)) tokens → climb under least a tokens ≡ took a left
+pub not-taken-is : (under least : ℕ) (a : WrittenExpression) (tokens left : List Lexeme) → under ≤ 5 → None ≡ at_levels least under (infix_at tokens) → left ≡ after_operator (at_levels least under (infix_at tokens)) tokens → climb under least a tokens ≡ took a left
 not-taken-is under least a tokens left few e f = let g : left ≡ tokens = rw (sym e) at f in rw g (no_operator under least a tokens few (sym e))
 
 -- one operator more is read, with its right operand
-pub one-more : (under least next : ℕ) (a b both : WrittenExpression) (tokens between left : List Lexeme) (i : ℕ × Operator) → under ≤ 5 → Some i ≡ at_levels least under (infix_at tokens) → between ≡ behind (at_levels least under (infix_at tokens)) tokens
+pub one-more : (under least next : ℕ) (a b both : WrittenExpression) (tokens between left : List Lexeme) (i : ℕ × Operator) → under ≤ 5 → Some i ≡ at_levels least under (infix_at tokens) → between ≡ after_operator (at_levels least under (infix_at tokens)) tokens
     → of_level (operand_level i.0) between ≡ took b left → both ≡ joining a (i.1, b) → next ≡ next_level i.0 → climb under next both left ≡ climb under least a tokens
 one-more under least next a b both tokens between left i few e f g h k =
     rw (h, k) (sym (taken-is under least a tokens between i few e f ∙ ap (and_next (λ c. climb under (next_level i.0) (joining a (i.1, c)))) g))

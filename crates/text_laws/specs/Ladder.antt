@@ -70,9 +70,9 @@ at_levels least under None = None
 at_levels least under (Some found) = if nat_lt found.0 least then None else (if nat_lt found.0 under then Some found else None)
 
 -- what is left where the operator is taken
-abbrev pub behind : Option (ℕ × Operator) → List Lexeme → List Lexeme
-behind None tokens = tokens
-behind (Some found) tokens = drop 1 tokens
+abbrev pub after_operator : Option (ℕ × Operator) → List Lexeme → List Lexeme
+after_operator None tokens = tokens
+after_operator (Some found) tokens = drop 1 tokens
 
 -- `if` with its parts
 abbrev pub if_format : LanguageFormat WrittenExpression

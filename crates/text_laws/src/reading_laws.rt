@@ -49,7 +49,7 @@ pub fn texts_end_with_their_word()
 pub fn openings_have_a_limit()
     ensures none { (limit : ℕ) (tokens : List Lexeme) → too_deep_at limit tokens ≡ None
         → HasFewOpenings limit tokens }
-    ensures few { (limit : ℕ) (tokens : List Lexeme) → HasFewOpenings limit tokens
+    ensures none_too_deep { (limit : ℕ) (tokens : List Lexeme) → HasFewOpenings limit tokens
         → too_deep_at limit tokens ≡ None }
 {}
 

@@ -12,7 +12,7 @@ use Rattle.model_core.specs.Static.Kinds.{expression_kind}
 use Rattle.model_core.specs.Static.PartFaults.{expression_faults}
 use Rattle.text_laws.specs.FormatReader.{Parse, took}
 use Rattle.text_laws.specs.LanguageReader.{language_reader}
-use Rattle.text_laws.specs.Ladder.{climb, not_format, infix_at, at_levels, behind}
+use Rattle.text_laws.specs.Ladder.{climb, not_format, infix_at, at_levels, after_operator}
 use Rattle.static_laws.specs.Checked.{NumberedAs}
 use Rattle.model_core.specs.Code.Views.{expression_of}
 use Rattle.one_pass.specs.declared.expressions.Operand.{Operand}
@@ -51,4 +51,4 @@ ClimbsFrom means under least before after x kind y kind' =
 -- after an operator that was taken of such operators, the same: its right operand comes first
 abbrev pub ClimbsOn : (List ℕ → Option Meaning) → ℕ → ℕ × graph.Operator → List Lexeme → List Lexeme → graph.Expression → Option Kind → graph.Expression → Option Kind → Type 0
 ClimbsOn means under first left after x kind y kind' =
-    (least : ℕ) (before : List Lexeme) → Some first ≡ at_levels least under (infix_at before) → left ≡ behind (at_levels least under (infix_at before)) before → ClimbsFrom means under least before after x kind y kind'
+    (least : ℕ) (before : List Lexeme) → Some first ≡ at_levels least under (infix_at before) → left ≡ after_operator (at_levels least under (infix_at before)) before → ClimbsFrom means under least before after x kind y kind'

@@ -78,7 +78,7 @@ pub record ReadVerticesAfter (m : WrittenModel) (before after : List Lexeme) (t0
   pub checked : (end_at : ℕ) → Checked t0 t1 (faults_of_parts (with_vertices m vertices end_at)) (numbered (with_vertices m vertices end_at) ≡ Some g)
 
 -- a whole text, of which no token is left. Its faults are those of the model
-pub record ReadText (tokens : List Lexeme) (told : Option StaticFault) (g : EventGraph) : Type 0 where
+pub record ReadText (tokens : List Lexeme) (fault : Option StaticFault) (g : EventGraph) : Type 0 where
   pub written : WrittenModel
   pub read : text_read tokens ≡ took written []
-  pub accepted : told ≡ None → Accepted written g
+  pub accepted : fault ≡ None → Accepted written g

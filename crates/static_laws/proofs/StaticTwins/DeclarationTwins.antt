@@ -21,7 +21,7 @@ use Rattle.model_core.specs.Static.OwnRules.{IsShort, IsLiteral, KeepsVariable, 
 use Rattle.model_core.specs.Static.WrittenByKind.{IsNoZero, SuitsKind, IsWrittenByKind}
 use Rattle.static_laws.proofs.StaticTwins.MadeOf.{OfFour, of_two, of_four, of_each, each_cons, each_length}
 use Rattle.model_core.proofs.EmptyLists.{left_empty, right_empty}
-use Rattle.static_laws.proofs.StaticTwins.Twins.{both_empty, Twin, twin_as, twin_map, twin_two, twin_before, twin_behind}
+use Rattle.static_laws.proofs.StaticTwins.Twins.{both_empty, Twin, twin_as, twin_map, twin_two, twin_before, twin_after}
 use Rattle.static_laws.proofs.StaticTwins.RowTwins.{short_name, few, size_twin, weight_twin, literal_twin, in_order, starts_inside}
 
 -- faults that are joined in another order
@@ -110,7 +110,7 @@ module _ (v : WrittenVariable) where
   front_faults = name_too_long v.name ++ if_written size_faults v.size
 
   front_twin : Twin front_faults (numbering.size v.size) (λ k. IsShort v.name.name × ((k ≤ ARRAY_CELLS_MAX) × IsNoZero v.size))
-  front_twin = twin_behind (name_too_long v.name) (if_written size_faults v.size) (numbering.size v.size) (IsShort v.name.name) _ (short_name v.name) (given_size v.size)
+  front_twin = twin_after (name_too_long v.name) (if_written size_faults v.size) (numbering.size v.size) (IsShort v.name.name) _ (short_name v.name) (given_size v.size)
 
   truth_twin : (b : Bool) (at : ℕ) → Twin (front_faults ++ []) (numbering.size v.size >>= λ cells. Some (number_of b) >>= λ start. Some (truth_variable v.name.name cells start)) (λ y. IsNoZero v.size × KeepsVariable y)
   truth_twin b at =
@@ -225,7 +225,7 @@ table_twin t =
     (λ ys p. record { name = p.0; rows = p.1.1.0; few = p.1.0; weights = p.1.1.1 })
     (λ ys k. (k.name, (k.few, (k.rows, k.weights))))
     (twin_joined (name_too_long t.name) (too_many ROWS_MAX (map (λ (r : WrittenRow). r.at) t.rows)) (rows_faults (pos 0) t.rows) _ Kept
-    (twin_behind (name_too_long t.name) (too_many ROWS_MAX (map (λ (r : WrittenRow). r.at) t.rows) ++ rows_faults (pos 0) t.rows) _ (IsShort t.name.name) _ (short_name t.name) few_rows))
+    (twin_after (name_too_long t.name) (too_many ROWS_MAX (map (λ (r : WrittenRow). r.at) t.rows) ++ rows_faults (pos 0) t.rows) _ (IsShort t.name.name) _ (short_name t.name) few_rows))
   where
     KeptRows : List Weighted → Type 0
     KeptRows ys = (length ys ≤ ROWS_MAX) × (AllByRecursion KeepsRow ys × (weights ys ≤ WEIGHTS_MAX))

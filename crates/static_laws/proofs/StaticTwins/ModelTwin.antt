@@ -28,7 +28,7 @@ use Rattle.model_core.proofs.EachOne.{every-images}
 use Rattle.static_laws.specs.FitsVersion.{FitsVersion}
 use Rattle.static_laws.proofs.StaticTwins.MadeOf.{of_one, of_three, of_four, of_each, each_cons, each_length}
 use Rattle.static_laws.proofs.StaticTwins.Twins.{both_empty, Twin, twin_each, twin_each_with}
-use Rattle.static_laws.proofs.StaticTwins.RowTwins.{not_above, told_by, short_name}
+use Rattle.static_laws.proofs.StaticTwins.RowTwins.{not_above, fault_where-none, short_name}
 use Rattle.static_laws.proofs.StaticTwins.DeclarationTwins.{few_items, variable_twin, table_twin}
 use Rattle.static_laws.proofs.StaticTwins.RepeatedNames.{distinct_names}
 use Rattle.static_laws.proofs.StaticTwins.NumberedPlaces.{each_same}
@@ -342,7 +342,7 @@ none_of_parts m limit (f ∷ fs) e = cc
 module _ (m : WrittenModel) (g : EventGraph) (limit : ℕ) where
   -- the rule on the length of the canonical text
   not_too_long : (text : List ℕ) (at : ℕ) → model_too_long limit text at ≡ [] ↔ length text ≤ limit
-  not_too_long text at = told_by (nat_lt limit (length text)) rules.ModelTooLong at (not_above limit (length text))
+  not_too_long text at = fault_where-none (nat_lt limit (length text)) rules.ModelTooLong at (not_above limit (length text))
 
   too_long_or_not : numbered m ≡ Some g → or_too_long m limit [] ≡ model_too_long limit (canonical g) m.end_at
   too_long_or_not e = by_number (numbered m) e

@@ -19,11 +19,11 @@ abbrev IsNew : List (List ℕ) → List ℕ → Type 0
 IsNew earlier name = list_any (same_bytes name) earlier ≡ false
 
 -- what is new after one more name is new and isn't that name
-behind : (earlier : List (List ℕ)) (name : List ℕ) (ns : List (List ℕ)) → AllByRecursion (IsNew (name ∷ earlier)) ns → AllByRecursion (IsNew earlier) ns × AllByRecursion (λ m. same_bytes name m ≡ false) ns
-behind earlier name [] h = (tt, tt)
-behind earlier name (m ∷ ns) h =
+apart_from : (earlier : List (List ℕ)) (name : List ℕ) (ns : List (List ℕ)) → AllByRecursion (IsNew (name ∷ earlier)) ns → AllByRecursion (IsNew earlier) ns × AllByRecursion (λ m. same_bytes name m ≡ false) ns
+apart_from earlier name [] h = (tt, tt)
+apart_from earlier name (m ∷ ns) h =
     let p = or_parts (same_bytes m name) (list_any (same_bytes m) earlier) h.0 in
-    let q = behind earlier name ns h.1 in
+    let q = apart_from earlier name ns h.1 in
     ((p.1, q.0), (nat_list_eq_equiv.symm name m ∙ p.0, q.1))
 
 in_front : (earlier : List (List ℕ)) (name : List ℕ) (ns : List (List ℕ)) → AllByRecursion (IsNew earlier) ns → AllByRecursion (λ m. same_bytes name m ≡ false) ns → AllByRecursion (IsNew (name ∷ earlier)) ns
@@ -36,7 +36,7 @@ not_repeated earlier [] e = (tt, tt)
 not_repeated earlier (n ∷ ns) e =
     let here = (broken_not (list_any (same_bytes n.name) earlier) rules.DuplicateName n.at).0 (left_empty (duplicate_name earlier n) (repeated_names (n.name ∷ earlier) ns) e) in
     let later = not_repeated (n.name ∷ earlier) ns (right_empty (duplicate_name earlier n) (repeated_names (n.name ∷ earlier) ns) e) in
-    let p = behind earlier n.name (names_of ns) later.0 in
+    let p = apart_from earlier n.name (names_of ns) later.0 in
     ((here, p.0), (p.1, later.1))
 
 none_repeated : (earlier : List (List ℕ)) (ns : List WrittenName) → AllByRecursion (IsNew earlier) (names_of ns) → IsDistinct same_bytes (names_of ns) → repeated_names earlier ns ≡ []

@@ -41,19 +41,19 @@ pub not_above : (limit k : ℕ) → nat_lt limit k ≡ false ↔ k ≤ limit
 not_above limit k = (λ e. grind (arith, nat_tests), λ h. grind (arith, nat_tests))
 
 -- where a test decides a fact, the fault of its failing decides it too
-pub told_by : {P : Type 0} (b : Bool) (kind : StaticKind) (at : ℕ) → (b ≡ false ↔ P) → fault_where b kind at ≡ [] ↔ P
-told_by b kind at t = (λ e. t.0 ((broken_not b kind at).0 e), λ p. (broken_not b kind at).1 (t.1 p))
+pub fault_where-none : {P : Type 0} (b : Bool) (kind : StaticKind) (at : ℕ) → (b ≡ false ↔ P) → fault_where b kind at ≡ [] ↔ P
+fault_where-none b kind at t = (λ e. t.0 ((broken_not b kind at).0 e), λ p. (broken_not b kind at).1 (t.1 p))
 
 -- ---- names, counts and kinds
 
 pub short_name : (n : WrittenName) → name_too_long n ≡ [] ↔ IsShort n.name
-short_name n = told_by (nat_lt NAME_MAX (length n.name)) rules.NameTooLong n.at (not_above NAME_MAX (length n.name))
+short_name n = fault_where-none (nat_lt NAME_MAX (length n.name)) rules.NameTooLong n.at (not_above NAME_MAX (length n.name))
 
 pub same_count : (wanted given at : ℕ) → value_count wanted given at ≡ [] ↔ wanted ≡ given
-same_count wanted given at = told_by (not (nat_eq wanted given)) rules.ValueCount at (λ e. grind (arith, nat_tests), λ h. grind (arith, nat_tests))
+same_count wanted given at = fault_where-none (not (nat_eq wanted given)) rules.ValueCount at (λ e. grind (arith, nat_tests), λ h. grind (arith, nat_tests))
 
 pub same_kind : (a b : Kind) (at : ℕ) → kind_mismatch (Some a) (Some b) at ≡ [] ↔ a ≡ b
-same_kind a b at = told_by (kinds_differ (Some a) (Some b)) rules.KindMismatch at (alike a b)
+same_kind a b at = fault_where-none (kinds_differ (Some a) (Some b)) rules.KindMismatch at (alike a b)
   where
     alike : (a b : Kind) → kinds_differ (Some a) (Some b) ≡ false ↔ a ≡ b
     alike kinds.Truth kinds.Truth = (λ e. refl, λ e. refl)
@@ -164,19 +164,19 @@ certain_is s z e = by_value s.number.value e
     by_value (Some n) e = same_Some (with_sign s.negative n) z e
 
 pub in_order : (lo hi : WrittenSigned) (a b : ℤ) → signed lo ≡ Some a → signed hi ≡ Some b → empty_range lo hi ≡ [] ↔ (a ≤ℤ b)
-in_order lo hi a b p q = told_by (lt_z (certain_signed hi) (certain_signed lo)) rules.EmptyRange lo.at (rw (certain_is lo a p, certain_is hi b q) (ordered a b))
+in_order lo hi a b p q = fault_where-none (lt_z (certain_signed hi) (certain_signed lo)) rules.EmptyRange lo.at (rw (certain_is lo a p, certain_is hi b q) (ordered a b))
   where
     ordered : (a b : ℤ) → lt_z b a ≡ false ↔ (a ≤ℤ b)
     ordered a b = (λ e. grind (arith, ints), λ h. grind (arith, ints))
 
 pub starts_inside : (lo hi s : WrittenSigned) (a b z : ℤ) → signed lo ≡ Some a → signed hi ≡ Some b → signed s ≡ Some z → initial_outside lo hi s ≡ [] ↔ (a ≤ℤ z) × (z ≤ℤ b)
-starts_inside lo hi s a b z p q r = told_by (not (is_between (certain_signed lo) (certain_signed hi) (certain_signed s))) rules.InitialOutside s.at (rw (certain_is lo a p, certain_is hi b q, certain_is s z r) inside)
+starts_inside lo hi s a b z p q r = fault_where-none (not (is_between (certain_signed lo) (certain_signed hi) (certain_signed s))) rules.InitialOutside s.at (rw (certain_is lo a p, certain_is hi b q, certain_is s z r) inside)
   where
     inside : not (is_between a b z) ≡ false ↔ (a ≤ℤ z) × (z ≤ℤ b)
     inside = (λ e. (between a b z).0 ((is_not (is_between a b z)).0 e), λ h. (is_not (is_between a b z)).1 ((between a b z).1 h))
 
 pub few_drawn : (lo hi : WrittenSigned) (a b : ℤ) → signed lo ≡ Some a → signed hi ≡ Some b → draw_outside lo hi ≡ [] ↔ (b <ℤ (a +ℤ pos WEIGHTS_MAX))
-few_drawn lo hi a b p q = told_by (le_z (certain_signed lo +ℤ pos WEIGHTS_MAX) (certain_signed hi)) rules.DrawOutside lo.at (rw (certain_is lo a p, certain_is hi b q) (below (a +ℤ pos WEIGHTS_MAX) b))
+few_drawn lo hi a b p q = fault_where-none (le_z (certain_signed lo +ℤ pos WEIGHTS_MAX) (certain_signed hi)) rules.DrawOutside lo.at (rw (certain_is lo a p, certain_is hi b q) (below (a +ℤ pos WEIGHTS_MAX) b))
   where
     below : (c d : ℤ) → le_z c d ≡ false ↔ (d <ℤ c)
     below c d = (λ e. grind (arith, ints), λ h. grind (arith, ints))

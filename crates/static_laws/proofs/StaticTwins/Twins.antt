@@ -72,22 +72,22 @@ twin_then fs gs (Some a) f P R next from t = record {
 
 -- further faults, which decide a fact of what the part is numbered as
 pub twin_and : {B : Type 0} (fs gs : List StaticFault) (o : Option B) (P C : B → Type 0) → ((y : B) → o ≡ Some y → P y → (gs ≡ [] ↔ C y)) → Twin fs o P → Twin (fs ++ gs) o (λ y. P y × C y)
-twin_and fs gs o P C tells t = record {
-  kept = λ e. let (y, s, p) = t.kept (left_empty fs gs e) in (y, s, (p, (tells y s p).0 (right_empty fs gs e)));
-  unbroken = λ y s q. both_empty fs gs (t.unbroken y s q.0) ((tells y s q.0).1 q.1);
+twin_and fs gs o P C iff t = record {
+  kept = λ e. let (y, s, p) = t.kept (left_empty fs gs e) in (y, s, (p, (iff y s p).0 (right_empty fs gs e)));
+  unbroken = λ y s q. both_empty fs gs (t.unbroken y s q.0) ((iff y s q.0).1 q.1);
 }
 
 pub twin_before : {B : Type 0} (gs fs : List StaticFault) (o : Option B) (C P : B → Type 0) → ((y : B) → o ≡ Some y → (gs ≡ [] ↔ C y)) → Twin fs o P → Twin (gs ++ fs) o (λ y. C y × P y)
-twin_before gs fs o C P tells t = record {
-  kept = λ e. let (y, s, p) = t.kept (right_empty gs fs e) in (y, s, ((tells y s).0 (left_empty gs fs e), p));
-  unbroken = λ y s q. both_empty gs fs ((tells y s).1 q.0) (t.unbroken y s q.1);
+twin_before gs fs o C P iff t = record {
+  kept = λ e. let (y, s, p) = t.kept (right_empty gs fs e) in (y, s, ((iff y s).0 (left_empty gs fs e), p));
+  unbroken = λ y s q. both_empty gs fs ((iff y s).1 q.0) (t.unbroken y s q.1);
 }
 
 -- faults before them, which decide another fact
-pub twin_behind : {B : Type 0} (gs fs : List StaticFault) (o : Option B) (C : Type 0) (P : B → Type 0) → (gs ≡ [] ↔ C) → Twin fs o P → Twin (gs ++ fs) o (λ y. C × P y)
-twin_behind gs fs o C P tells t = record {
-  kept = λ e. let (y, s, p) = t.kept (right_empty gs fs e) in (y, s, (tells.0 (left_empty gs fs e), p));
-  unbroken = λ y s q. both_empty gs fs (tells.1 q.0) (t.unbroken y s q.1);
+pub twin_after : {B : Type 0} (gs fs : List StaticFault) (o : Option B) (C : Type 0) (P : B → Type 0) → (gs ≡ [] ↔ C) → Twin fs o P → Twin (gs ++ fs) o (λ y. C × P y)
+twin_after gs fs o C P iff t = record {
+  kept = λ e. let (y, s, p) = t.kept (right_empty gs fs e) in (y, s, (iff.0 (left_empty gs fs e), p));
+  unbroken = λ y s q. both_empty gs fs (iff.1 q.0) (t.unbroken y s q.1);
 }
 
 -- ---- lists, and parts that may be left out

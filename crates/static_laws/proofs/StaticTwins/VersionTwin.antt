@@ -28,7 +28,7 @@ use Rattle.static_laws.specs.FitsVersion.{FitsVersion}
 use Rattle.static_laws.proofs.LeftOut.{each_numbered-items}
 use Rattle.static_laws.proofs.StaticTwins.MadeOf.{of_one, of_two, of_three, of_four, of_each}
 use Rattle.static_laws.proofs.StaticTwins.Twins.{both_empty, Twin}
-use Rattle.static_laws.proofs.StaticTwins.RowTwins.{is_not, not_above, told_by, natural_between}
+use Rattle.static_laws.proofs.StaticTwins.RowTwins.{is_not, not_above, fault_where-none, natural_between}
 use Rattle.static_laws.proofs.StaticTwins.DeclarationTwins.{few_items, some_cells, natural_is}
 use Rattle.static_laws.proofs.StaticTwins.DeclaredNames.{variable_size}
 use Rattle.static_laws.proofs.StaticTwins.VertexTwins.{numbered_parameters, edge_made, vertex_made}
@@ -49,11 +49,11 @@ none_fits fs b e h = (λ n. h, λ n. e)
 -- parts that break no rule where nothing that they are numbered as passes a test
 each_fits : {A B : Type 0} (faults : A → List StaticFault) (f : A → Option B) (C : A → Type 0) (passes : B → Bool) → ((x : A) (y : B) → C x → f x ≡ Some y → (faults x ≡ [] ↔ passes y ≡ false))
     → (xs : List A) (ys : List B) → AllByRecursion C xs → each_numbered f xs ≡ Some ys → flat_map faults xs ≡ [] ↔ list_any passes ys ≡ false
-each_fits faults f C passes tells [] ys h e = none_fits [] (list_any passes ys) refl (ap (list_any passes) (sym (same_Some [] ys e)))
-each_fits faults f C passes tells (x ∷ xs) ys h e =
+each_fits faults f C passes iff [] ys h e = none_fits [] (list_any passes ys) refl (ap (list_any passes) (sym (same_Some [] ys e)))
+each_fits faults f C passes iff (x ∷ xs) ys h e =
     let p = of_each f x xs ys e in
     subst (λ zs. flat_map faults (x ∷ xs) ≡ [] ↔ list_any passes zs ≡ false) p.made
-    (both_fit (faults x) (flat_map faults xs) (passes p.a) (list_any passes p.b) (tells x p.a h.0 p.is_a) (each_fits faults f C passes tells xs p.b h.1 p.is_b))
+    (both_fit (faults x) (flat_map faults xs) (passes p.a) (list_any passes p.b) (iff x p.a h.0 p.is_a) (each_fits faults f C passes iff xs p.b h.1 p.is_b))
 
 nothing_asked : {A : Type 0} (xs : List A) → AllByRecursion (λ x. Unit {0}) xs
 nothing_asked [] = tt
@@ -71,7 +71,7 @@ size_inside limit k h = (λ e. (not_above limit k).1 (within ((is_not (is_betwee
 
 size_fits : (s : Option WrittenNumber) (k : ℕ) → IsNoZero s → numbering.size s ≡ Some k → if_written (size_outside ARRAY_CELLS_MAX_VERSION_1) s ≡ [] ↔ nat_lt ARRAY_CELLS_MAX_VERSION_1 k ≡ false
 size_fits None k h e = none_fits [] (nat_lt ARRAY_CELLS_MAX_VERSION_1 k) refl (ap (nat_lt ARRAY_CELLS_MAX_VERSION_1) (sym (same_Some 0 k e)))
-size_fits (Some n) k h e = told_by (not (is_between (pos 1) (pos ARRAY_CELLS_MAX_VERSION_1) (certain_value n))) rules.SizeOutside n.at (rw (natural_is n k e) (size_inside ARRAY_CELLS_MAX_VERSION_1 k (some_cells k n.value e h)))
+size_fits (Some n) k h e = fault_where-none (not (is_between (pos 1) (pos ARRAY_CELLS_MAX_VERSION_1) (certain_value n))) rules.SizeOutside n.at (rw (natural_is n k e) (size_inside ARRAY_CELLS_MAX_VERSION_1 k (some_cells k n.value e h)))
 
 variable_fits : (v : WrittenVariable) (y : Variable) → IsWrittenByKind v → numbering.variable v ≡ Some y → size_faults_version_1 v ≡ [] ↔ is_large_array y ≡ false
 variable_fits v y k e = size_fits v.size y.size k.size (variable_size v y e)
@@ -96,7 +96,7 @@ module _ (d : Declared) where
   after_fits (Some (written.Fixed e)) priority y s = let p = of_one graph.Fixed (numbering.expression d e) y s in none_fits [] (is_drawn y) refl (ap is_drawn (sym p.made))
   after_fits (Some (written.Drawn at stream c)) priority y s =
       let p = of_two graph.Drawn (natural stream) (numbering.choice d c) y s in
-      subst (λ z. delay_faults_version_1 (written.Schedule (Some (written.Drawn at stream c)) priority) ≡ [] ↔ is_drawn z ≡ false) p.made (told_by true rules.VersionNeeded at (λ e. e, λ e. e))
+      subst (λ z. delay_faults_version_1 (written.Schedule (Some (written.Drawn at stream c)) priority) ≡ [] ↔ is_drawn z ≡ false) p.made (fault_where-none true rules.VersionNeeded at (λ e. e, λ e. e))
 
   abbrev draws : EdgeKind → Bool
   draws kind = option_map_or is_drawn (delay_given kind) false
@@ -189,8 +189,8 @@ module _ (g : EventGraph) (first second : List StaticFault) (Few : Type 0) (in_f
   by_number n = (
     λ e.
         let (k, is, within) = (number_twin n).kept (left_empty (number_faults n) (cond (is_version_two (Some n)) second first) e) in
-        told k is within.0 within.1 (is_version_two (Some n)) refl (right_empty (number_faults n) (cond (is_version_two (Some n)) second first) e),
-    λ (fits, few). untold fits few,
+        in_version k is within.0 within.1 (is_version_two (Some n)) refl (right_empty (number_faults n) (cond (is_version_two (Some n)) second first) e),
+    λ (fits, few). no_faults fits few,
   )
     where
       two : (k : ℕ) → is_between (pos 2) (pos 2) (pos k) ≡ true → k ≡ 2
@@ -199,17 +199,17 @@ module _ (g : EventGraph) (first second : List StaticFault) (Few : Type 0) (in_f
       not_two : (k : ℕ) → is_between (pos 2) (pos 2) (pos k) ≡ false → 1 ≤ k → k ≤ 2 → k ≡ 1
       not_two k t a b = grind (arith, ints)
 
-      told : (k : ℕ) → natural n ≡ Some k → 1 ≤ k → k ≤ 2 → (b : Bool) → is_version_two (Some n) ≡ b → cond b second first ≡ [] → FitsVersion (Some n) g × Few
-      told k is lo hi true t e =
+      in_version : (k : ℕ) → natural n ≡ Some k → 1 ≤ k → k ≤ 2 → (b : Bool) → is_version_two (Some n) ≡ b → cond b second first ≡ [] → FitsVersion (Some n) g × Few
+      in_version k is lo hi true t e =
           let same : k ≡ 2 = two k (ap (is_between (pos 2) (pos 2)) (sym (natural_is n k is)) ∙ t) in
           (inr (value_is n.value k is ∙ ap (λ i. Some (pos i)) same), in_second.0 e)
-      told k is lo hi false t e =
+      in_version k is lo hi false t e =
           let same : k ≡ 1 = not_two k (ap (is_between (pos 2) (pos 2)) (sym (natural_is n k is)) ∙ t) lo hi in
           (inl (value_is n.value k is ∙ ap (λ i. Some (pos i)) same, in_first.0 e), few_in_first (in_first.0 e))
 
-      untold : FitsVersion (Some n) g → Few → number_faults n ++ cond (is_version_two (Some n)) second first ≡ []
-      untold (inl (first_one, small)) few = both_empty (number_faults n) (cond (is_version_two (Some n)) second first) ((number_twin n).unbroken 1 (rw first_one refl) (lit≤ tt, lit≤ tt)) (rw first_one (in_first.1 small))
-      untold (inr second_one) few = both_empty (number_faults n) (cond (is_version_two (Some n)) second first) ((number_twin n).unbroken 2 (rw second_one refl) (lit≤ tt, lit≤ tt)) (rw second_one (in_second.1 few))
+      no_faults : FitsVersion (Some n) g → Few → number_faults n ++ cond (is_version_two (Some n)) second first ≡ []
+      no_faults (inl (first_one, small)) few = both_empty (number_faults n) (cond (is_version_two (Some n)) second first) ((number_twin n).unbroken 1 (rw first_one refl) (lit≤ tt, lit≤ tt)) (rw first_one (in_first.1 small))
+      no_faults (inr second_one) few = both_empty (number_faults n) (cond (is_version_two (Some n)) second first) ((number_twin n).unbroken 2 (rw second_one refl) (lit≤ tt, lit≤ tt)) (rw second_one (in_second.1 few))
 
   by_version : (version : Option WrittenNumber) → if_written number_faults version ++ cond (is_version_two version) second first ≡ [] ↔ FitsVersion version g × Few
   by_version None = (λ e. (in_first.0 e, few_in_first (in_first.0 e)), λ p. in_first.1 p.0)

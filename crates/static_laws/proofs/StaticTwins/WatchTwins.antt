@@ -44,8 +44,8 @@ module _ (means : List ℕ → Option Meaning) (d : Declared) (variables : List 
   -- ---- each once
 
   -- a watched name and its number
-  abbrev Stands : List ℕ → ℕ → Type 0
-  Stands name k = (w : Watched) × (numbering.watched_or d (declared_place name d.variables) (declared_place name d.vertices) ≡ Some w) × (watch_number (length d.variables) w ≡ k)
+  abbrev HasNumber : List ℕ → ℕ → Type 0
+  HasNumber name k = (w : Watched) × (numbering.watched_or d (declared_place name d.variables) (declared_place name d.vertices) ≡ Some w) × (watch_number (length d.variables) w ≡ k)
 
   -- it is a variable of that number, or else a vertex, numbered after all variables
   record AsVariable (name : List ℕ) (x : ℕ) : Type 0 where
@@ -58,7 +58,7 @@ module _ (means : List ℕ → Option Meaning) (d : Declared) (variables : List 
     there : declared_place name d.vertices ≡ Some place
     number : length d.variables + place ≡ x
 
-  either : (name : List ℕ) (x : ℕ) → Stands name x → AsVariable name x ⊎ AsVertex name x
+  either : (name : List ℕ) (x : ℕ) → HasNumber name x → AsVariable name x ⊎ AsVertex name x
   either name x (w, s, i) = by_places (declared_place name d.variables) refl (declared_place name d.vertices) refl w s i
     where
       by_places : (o : Option ℕ) → declared_place name d.variables ≡ o → (p : Option ℕ) → declared_place name d.vertices ≡ p
@@ -83,7 +83,7 @@ module _ (means : List ℕ → Option Meaning) (d : Declared) (variables : List 
       by_test true h = let same : a ≡ b = (bytes_decides a b).0 h in absurd (some_none (sym v.there ∙ ap (λ n. declared_place n d.variables) same ∙ w.none))
       by_test false h = refl
 
-  one_number : (a b : List ℕ) (x y : ℕ) → Stands a x → Stands b y → same_bytes a b ≡ nat_eq x y
+  one_number : (a b : List ℕ) (x y : ℕ) → HasNumber a x → HasNumber b y → same_bytes a b ≡ nat_eq x y
   one_number a b x y p q = elim (either a x p) [
     | inl v ↦ elim (either b y q) [
       | inl w ↦ same_place d.variables a b x y v.there w.there
@@ -101,17 +101,17 @@ module _ (means : List ℕ → Option Meaning) (d : Declared) (variables : List 
       shifted : (j k x y : ℕ) → length d.variables + j ≡ x → length d.variables + k ≡ y → nat_eq j k ≡ nat_eq x y
       shifted j k x y e f = grind (arith, nat_tests)
 
-  stand : (ns : List WrittenName) (ws : List Watched) → AllZip (λ n w. numbering.watched d n ≡ Some w) ns ws → AllZip Stands (names_of ns) (map (watch_number (length d.variables)) ws)
-  stand [] [] z = tt
-  stand [] (w ∷ ws) z = absurd z
-  stand (n ∷ ns) [] z = absurd z
-  stand (n ∷ ns) (w ∷ ws) z = ((w, z.0, refl), stand ns ws z.1)
+  have_numbers : (ns : List WrittenName) (ws : List Watched) → AllZip (λ n w. numbering.watched d n ≡ Some w) ns ws → AllZip HasNumber (names_of ns) (map (watch_number (length d.variables)) ws)
+  have_numbers [] [] z = tt
+  have_numbers [] (w ∷ ws) z = absurd z
+  have_numbers (n ∷ ns) [] z = absurd z
+  have_numbers (n ∷ ns) (w ∷ ws) z = ((w, z.0, refl), have_numbers ns ws z.1)
 
   once : (ns : List WrittenName) (ws : List Watched) → each_numbered (numbering.watched d) ns ≡ Some ws → repeated_names [] ns ≡ [] ↔ IsDistinct nat_eq (map (watch_number (length d.variables)) ws)
   once ns ws e =
-      let z = stand ns ws (each_zip (numbering.watched d) ns ws e) in (
-        λ h. distinct_along Stands same_bytes nat_eq one_number (names_of ns) (map (watch_number (length d.variables)) ws) z ((distinct_names ns).0 h),
-        λ h. (distinct_names ns).1 (distinct_back Stands same_bytes nat_eq one_number (names_of ns) (map (watch_number (length d.variables)) ws) z h),
+      let z = have_numbers ns ws (each_zip (numbering.watched d) ns ws e) in (
+        λ h. distinct_along HasNumber same_bytes nat_eq one_number (names_of ns) (map (watch_number (length d.variables)) ws) z ((distinct_names ns).0 h),
+        λ h. (distinct_names ns).1 (distinct_back HasNumber same_bytes nat_eq one_number (names_of ns) (map (watch_number (length d.variables)) ws) z h),
       )
 
   abbrev pub KeepsWatch : List Watched → Type 0

@@ -10,9 +10,9 @@ returns c =
       spelled_or_not = texts.spelled_or_unexpected;
       one_place = texts.one_place;
       none_deep = λ tokens e. openings.none _ tokens e;
-      few_openings = λ tokens h. openings.few _ tokens h;
-      fault_is_first = λ m f. (faults.told m f).0;
-      first_is_fault = λ m f. (faults.told m f).1;
+      few_openings = λ tokens h. openings.none_too_deep _ tokens h;
+      fault_is_first = λ m f. (faults.first m f).0;
+      first_is_fault = λ m f. (faults.first m f).1;
       accepted = λ m. (faults.accepted m).0;
       accepted_has_no_fault = λ m. (faults.accepted m).1;
     }

@@ -5,7 +5,7 @@ use Rattle.job_answers.proofs.document_law.documents_have_one_complaint.Goals as
 pub returns : goal.returns
 returns c =
     let fault = c.accepted_or_one_fault.ensures in
-    let faults : FaultLaws = record { first_is_fault = fault.told; accepted = fault.accepted } in
+    let faults : FaultLaws = record { first_is_fault = fault.first; accepted = fault.accepted } in
     record {
       one = λ text what other at place p q. one_document_complaint faults text what other at place p q;
       none = λ text what at g applications h p reads. no_document_complaint faults text what at g applications h p reads;

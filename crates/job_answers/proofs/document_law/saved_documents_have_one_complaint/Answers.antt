@@ -5,7 +5,7 @@ use Rattle.job_answers.proofs.document_law.saved_documents_have_one_complaint.Go
 pub returns : goal.returns
 returns c =
     let fault = c.accepted_or_one_fault.ensures in
-    let faults : FaultLaws = record { first_is_fault = fault.told; accepted = fault.accepted } in
+    let faults : FaultLaws = record { first_is_fault = fault.first; accepted = fault.accepted } in
     let read = c.snapshots_have_one_reading.ensures in
     let snapshots : SnapshotLaws = record { one = read.one_snapshot; decided = read.snapshot_or_none; one_place = read.one_wrong_place } in
     record {

@@ -16,11 +16,11 @@ returns-in_err-first-clause-complaint c = λ what at e.
 pub returns-in-Err-clause-complaint : goal.returns-in-Err-clause-complaint
 returns-in-Err-clause-complaint c = λ what at e.
     static_complaint_is (IsDocumentComplaint c.args.text.now) c.in-Err.error
-    (λ kind i is. of_first _ _ _ c.in_ok-first.ensures.ok kind refl (c.in-Err.ensures.told kind i (ap (λ x. Err x) is)))
+    (λ kind i is. of_first _ _ _ c.in_ok-first.ensures.ok kind refl (c.in-Err.ensures.refused kind i (ap (λ x. Err x) is)))
     what at (sym c.from.ensures ∙ one_error c.from.result (At what at) e)
 
 pub returns-in-Err-check-clause-complaint : goal.returns-in-Err-check-clause-complaint
 returns-in-Err-check-clause-complaint c = λ what at e.
     static_complaint_is (IsDocumentComplaint c.args.text.now) c.in-Err-check.error
-    (λ kind i is. of_second _ _ _ c.in_ok-first.ensures.ok (graph_of c.in-Ok.original) c.in-Ok.ensures.accepted kind refl (c.in-Err-check.ensures.told kind i (ap (λ x. Err x) is)))
+    (λ kind i is. of_second _ _ _ c.in_ok-first.ensures.ok (graph_of c.in-Ok.original) c.in-Ok.ensures.accepted kind refl (c.in-Err-check.ensures.refused kind i (ap (λ x. Err x) is)))
     what at (sym c.from-in-Err-check.ensures ∙ one_error c.from-in-Err-check.result (At what at) e)

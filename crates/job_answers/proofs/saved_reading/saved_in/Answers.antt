@@ -26,7 +26,7 @@ returns-in-Err-clause-complaint c = λ what at e.
     let snapshot = c.in_ok-raw.ensures.ends in
     static_complaint_is (IsSavedComplaint pieces.text.now) c.in-Err.error
     (λ kind i is. of_model (written_model c.in_ok-raw.raw) snapshot.0 (record { tokens = pieces_lexemes pieces; cut = pieces.are_its; behind = drop c.in_ok-raw.behind (pieces_lexemes pieces); begins = c.in_ok-raw.ensures.begins; ends = snapshot.1 }) kind refl
-    (c.in-Err.ensures.told kind i (ap (λ x. Err x) is)))
+    (c.in-Err.ensures.refused kind i (ap (λ x. Err x) is)))
     what at (sym c.from.ensures ∙ one_error c.from.result (At what at) e)
 
 pub returns-in-Ok-read_snapshot_pieces-clause-ok : goal.returns-in-Ok-read_snapshot_pieces-clause-ok

@@ -46,7 +46,7 @@ others-returns-in_err-right-clause-reads t c =
 
 pub others-loop-infix-preserved : goal.others-loop-infix-preserved
 others-loop-infix-preserved t c = record {
-  few = let a = c.in-Some.ensures.shorter in let b = c.in_ok-right.ensures.shorter in let d = c.loop-infix.invariant.few in omega arith;
+  no_longer = let a = c.in-Some.ensures.shorter in let b = c.in_ok-right.ensures.shorter in let d = c.loop-infix.invariant.no_longer in omega arith;
   reads =
       one-more c.args.under c.loop-infix.least c.next_level-least.result (written_expression c.loop-infix.left) (written_expression c.in_ok-right.right) (written_expression c.in_ok-left.left) c.loop-infix.cursor c.infix.new.self c.operand.new.cursor (infix_of c.in-Some.infix)
       c.requires c.in-Some.ensures.takes c.infix.ensures.leaves c.in_ok-right.ensures.reads (rw (c.free.ensures, c.of-held.ensures) at c.in_ok-left.ensures.ok) c.next_level-least.ensures

@@ -59,6 +59,6 @@ decreases-others-loop-infix l = length l.cursor
 
 abbrev pub invariant-others-loop-infix : goal.invariant-others-loop-infix
 invariant-others-loop-infix l = record {
-  few : length l.cursor ≤ length l.fn.cursor;
+  no_longer : length l.cursor ≤ length l.fn.cursor;
   reads : climb l.under l.least (written_expression l.left) l.cursor ≡ climb l.fn.under l.fn.least (written_expression l.fn.first) l.fn.cursor;
 }

@@ -26,17 +26,17 @@ overflow_sub-result c =
     let text = c.args.pieces.now.text.now in
     let all = pieces_lexemes c.args.pieces.now in
     let are : c.new-cursor.result ≡ drop c.args.from all = c.new-cursor.ensures ∙ cut-is_dropped text c.as_slice.result.now c.args.pieces.now.list c.args.from c.as_slice.ensures in
-    let tells = placed-names written_model text c.model-read.result c.model-read.new.cursor (text_and_rest (drop c.args.from all)) (Ok c.in_ok-model.model) (c.in_ok-model.ensures text refl) (rw are at c.model-read.ensures) in
-    rw (c.len-left.ensures, c.len.ensures) (front-left all c.model-read.new.cursor c.args.from _ (written_model c.in_ok-model.model) (sym (length-map c.args.pieces.now.list (piece_of text))) c.requires tells)
+    let returned = placed-names written_model text c.model-read.result c.model-read.new.cursor (text_and_rest (drop c.args.from all)) (Ok c.in_ok-model.model) (c.in_ok-model.ensures text refl) (rw are at c.model-read.ensures) in
+    rw (c.len-left.ensures, c.len.ensures) (front-left all c.model-read.new.cursor c.args.from _ (written_model c.in_ok-model.model) (sym (length-map c.args.pieces.now.list (piece_of text))) c.requires returned)
 
 pub returns-clause-ok : goal.returns-clause-ok
 returns-clause-ok c =
     let text = c.args.pieces.now.text.now in
     let all = pieces_lexemes c.args.pieces.now in
     let are : c.new-cursor.result ≡ drop c.args.from all = c.new-cursor.ensures ∙ cut-is_dropped text c.as_slice.result.now c.args.pieces.now.list c.args.from c.as_slice.ensures in
-    let tells = placed-names written_model text c.model-read.result c.model-read.new.cursor (text_and_rest (drop c.args.from all)) (Ok c.in_ok-model.model) (c.in_ok-model.ensures text refl) (rw are at c.model-read.ensures) in
+    let returned = placed-names written_model text c.model-read.result c.model-read.new.cursor (text_and_rest (drop c.args.from all)) (Ok c.in_ok-model.model) (c.in_ok-model.ensures text refl) (rw are at c.model-read.ensures) in
     let counted = front-counted text c.as_slice.result.now c.args.pieces.now.list c.args.from c.front_length.result OPENINGS_MAX c.first_too_deep.result c.as_slice.ensures (c.first_too_deep.ensures text) (c.front_length.ensures.front text) in
-    rw (c.len-left.ensures, c.len.ensures) (front-ok all c.model-read.new.cursor c.args.from _ OPENINGS_MAX (written_model c.in_ok-model.model) (sym (length-map c.args.pieces.now.list (piece_of text))) c.requires tells
+    rw (c.len-left.ensures, c.len.ensures) (front-ok all c.model-read.new.cursor c.args.from _ OPENINGS_MAX (written_model c.in_ok-model.model) (sym (length-map c.args.pieces.now.list (piece_of text))) c.requires returned
     (none-is_few OPENINGS_MAX (front_to_end (drop c.args.from all)) (sym counted ∙ c.in_default.is)))
 
 pub returns-in_err-model : goal.returns-in_err-model
@@ -44,12 +44,12 @@ returns-in_err-model c =
     let text = c.args.pieces.now.text.now in
     let tokens = drop c.args.from (pieces_lexemes c.args.pieces.now) in
     let are : c.new-cursor.result ≡ tokens = c.new-cursor.ensures ∙ cut-is_dropped text c.as_slice.result.now c.args.pieces.now.list c.args.from c.as_slice.ensures in
-    let tells = placed-names written_model text c.model-read.result c.model-read.new.cursor (text_and_rest tokens) (Err c.in_err-model.field-0.0) (c.in_err-model.ensures text refl) (rw are at c.model-read.ensures) in
+    let returned = placed-names written_model text c.model-read.result c.model-read.new.cursor (text_and_rest tokens) (Err c.in_err-model.field-0.0) (c.in_err-model.ensures text refl) (rw are at c.model-read.ensures) in
     let counted = front-counted text c.as_slice.result.now c.args.pieces.now.list c.args.from c.front_length.result OPENINGS_MAX c.first_too_deep.result c.as_slice.ensures (c.first_too_deep.ensures text) (c.front_length.ensures.front text) in
     let p = err_from_is_err_and c.from_residual.result c.from_residual.ensures.1 in
     record {
       ok = rw p.1 tt;
       inside = rw p.1 tt;
-      unexpected = λ at e. (sym counted ∙ c.in_default.is, error-unexpected text tokens c.model-read.new.cursor c.in_err-model.field-0.0 at tells (same-error c.from_residual.result p.0 c.in_err-model.field-0.0 (errors.Unexpected at) p.1 p.2 e));
-      too_deep = λ at e. absurd (error-never_deep text tokens c.model-read.new.cursor c.in_err-model.field-0.0 at tells (same-error c.from_residual.result p.0 c.in_err-model.field-0.0 (errors.TooDeep at) p.1 p.2 e));
+      unexpected = λ at e. (sym counted ∙ c.in_default.is, error-unexpected text tokens c.model-read.new.cursor c.in_err-model.field-0.0 at returned (same-error c.from_residual.result p.0 c.in_err-model.field-0.0 (errors.Unexpected at) p.1 p.2 e));
+      too_deep = λ at e. absurd (error-never_deep text tokens c.model-read.new.cursor c.in_err-model.field-0.0 at returned (same-error c.from_residual.result p.0 c.in_err-model.field-0.0 (errors.TooDeep at) p.1 p.2 e));
     }

@@ -2,4 +2,4 @@ use Rattle.std.proofs.lemmas.Result.{IfOk-weaker}
 use Rattle.one_pass.proofs.text.behind.Goals as goal
 
 pub returns : goal.returns
-returns c = IfOk-weaker c.among_names.result _ _ (λ model read. read c.in_ok-names.ensures.means c.args.told.now c.in_ok-names.ensures.told) c.among_names.ensures
+returns c = IfOk-weaker c.among_names.result _ _ (λ model read. read c.in_ok-names.ensures.means c.args.fault.now c.in_ok-names.ensures.earliest) c.among_names.ensures

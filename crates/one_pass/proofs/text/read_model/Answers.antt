@@ -17,5 +17,5 @@ returns c =
       written = read.written;
       spelled = whole-is_spelled ls read.written [] read.read;
       few = none-is_few OPENINGS_MAX ls (sym (rw c.as_slice-list.ensures at (c.first_too_deep.ensures text)) ∙ c.in_default.is);
-      accepted = read.accepted c.in_ok-refuse_fault.ensures.untold;
+      accepted = read.accepted c.in_ok-refuse_fault.ensures.none_found;
     }

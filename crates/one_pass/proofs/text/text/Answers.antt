@@ -13,5 +13,5 @@ returns c =
     record {
       written = with_vertices begun read.vertices end_at;
       read = text-read begun read.vertices end_at c.args.cursor.now c.beginning.new.cursor c.behind.new.cursor c.in_ok-begun.ensures read.read c.in_ok-end_at.ensures;
-      accepted = model_accepted (with_vertices begun read.vertices end_at) (graph_of c.in_ok-model.model) c.behind.new.told c.report_long_text.new.told (rw c.requires at (read.checked end_at)) c.in_ok-refuse_version.ensures.fits c.in_ok-refuse_version.ensures.few c.report_long_text.ensures.none c.report_long_text.ensures.some;
+      accepted = model_accepted (with_vertices begun read.vertices end_at) (graph_of c.in_ok-model.model) c.behind.new.fault c.report_long_text.new.fault (rw c.requires at (read.checked end_at)) c.in_ok-refuse_version.ensures.fits c.in_ok-refuse_version.ensures.few c.report_long_text.ensures.none c.report_long_text.ensures.some;
     }

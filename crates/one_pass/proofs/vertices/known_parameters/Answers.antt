@@ -11,14 +11,14 @@ returns-clause-alike c = c.if-not-begin_alike.ensures.0 refl
 pub returns-clause-named : goal.returns-clause-named
 returns-clause-named c =
     let params = rw (c.items.ensures, map-items written_name c.args.begun.now.params) at c.in_ok-params.ensures in
-    (begun_surely (meaning_of c.args.names.now) (written_vertex c.args.begun.now) c.report_long_name.new.told c.parameters.new.told c.in_ok-params.params (rw c.new-told.ensures at c.report_long_name.ensures) params c.in_ok-refuse_fault.ensures.untold).0
+    (begun_surely (meaning_of c.args.names.now) (written_vertex c.args.begun.now) c.report_long_name.new.fault c.parameters.new.fault c.in_ok-params.params (rw c.new-fault.ensures at c.report_long_name.ensures) params c.in_ok-refuse_fault.ensures.none_found).0
 
 pub returns-clause-unbroken : goal.returns-clause-unbroken
 returns-clause-unbroken c =
     let params = rw (c.items.ensures, map-items written_name c.args.begun.now.params) at c.in_ok-params.ensures in
-    (begun_surely (meaning_of c.args.names.now) (written_vertex c.args.begun.now) c.report_long_name.new.told c.parameters.new.told c.in_ok-params.params (rw c.new-told.ensures at c.report_long_name.ensures) params c.in_ok-refuse_fault.ensures.untold).1
+    (begun_surely (meaning_of c.args.names.now) (written_vertex c.args.begun.now) c.report_long_name.new.fault c.parameters.new.fault c.in_ok-params.params (rw c.new-fault.ensures at c.report_long_name.ensures) params c.in_ok-refuse_fault.ensures.none_found).1
 
 pub returns-clause-numbers : goal.returns-clause-numbers
 returns-clause-numbers c =
     let params = rw (c.items.ensures, map-items written_name c.args.begun.now.params) at c.in_ok-params.ensures in
-    (begun_surely (meaning_of c.args.names.now) (written_vertex c.args.begun.now) c.report_long_name.new.told c.parameters.new.told c.in_ok-params.params (rw c.new-told.ensures at c.report_long_name.ensures) params c.in_ok-refuse_fault.ensures.untold).2
+    (begun_surely (meaning_of c.args.names.now) (written_vertex c.args.begun.now) c.report_long_name.new.fault c.parameters.new.fault c.in_ok-params.params (rw c.new-fault.ensures at c.report_long_name.ensures) params c.in_ok-refuse_fault.ensures.none_found).2

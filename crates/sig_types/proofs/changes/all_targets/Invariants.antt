@@ -13,6 +13,6 @@ abbrev pub invariant-loop-raw : goal.invariant-loop-raw
 invariant-loop-raw l =
     let seen = map written_target (take l.raw-index l.raws) in
     record {
-      checked : CheckedPart (meaning_of l.names) l.fn.told l.told (flat_map (target_faults (meaning_of l.names)) seen) (λ d. each_numbered (location d) seen) (map location_of l.targets.items);
+      checked : CheckedPart (meaning_of l.names) l.fn.fault l.fault (flat_map (target_faults (meaning_of l.names)) seen) (λ d. each_numbered (location d) seen) (map location_of l.targets.items);
       kinds : l.kinds.items ≡ map (target_kind (meaning_of l.names)) seen;
     }

@@ -12,4 +12,4 @@ use Rattle.sig_types.proofs.changes.changes.Given as goal
 abbrev pub invariant-loop-raw : goal.invariant-loop-raw
 invariant-loop-raw l =
     let seen = map written_change (take l.raw-index l.raws) in
-    CheckedPart (meaning_of l.names) l.fn.told l.told (flat_map (change_faults (meaning_of l.names)) seen) (λ d. each_numbered (change d) seen) (map change_of l.changes.items)
+    CheckedPart (meaning_of l.names) l.fn.fault l.fault (flat_map (change_faults (meaning_of l.names)) seen) (λ d. each_numbered (change d) seen) (map change_of l.changes.items)

@@ -8,4 +8,4 @@ use Rattle.sig_types.proofs.changes.choice.Goals as goal
 pub returns-in-Uniform : goal.returns-in-Uniform
 returns-in-Uniform c =
     rw (c.in-Uniform.is, to_z-of_z w64 c.literal-least.result (search rules), to_z-of_z w64 c.literal-most.result (search rules))
-    (uniform_checked (meaning_of c.args.names.now) _ c.literal-least.new.told c.literal-most.new.told c.report_empty_range.new.told _ (written_signed c.in-Uniform.lo) (written_signed c.in-Uniform.hi) _ _ c.literal-least.ensures c.literal-most.ensures c.report_empty_range.ensures c.report_wide_range.ensures)
+    (uniform_checked (meaning_of c.args.names.now) _ c.literal-least.new.fault c.literal-most.new.fault c.report_empty_range.new.fault _ (written_signed c.in-Uniform.lo) (written_signed c.in-Uniform.hi) _ _ c.literal-least.ensures c.literal-most.ensures c.report_empty_range.ensures c.report_wide_range.ensures)

@@ -11,4 +11,4 @@ use Rattle.sig_types.proofs.changes.values.Given as goal
 abbrev pub invariant-loop-i : goal.invariant-loop-i
 invariant-loop-i l =
     let seen = map written_expression (take l.i l.raws) in
-    CheckedPart (meaning_of l.names) l.fn.told l.told (values_faults (meaning_of l.names) l.kinds seen) (λ d. each_numbered (expression d) seen) (map expression_of l.values.items)
+    CheckedPart (meaning_of l.names) l.fn.fault l.fault (values_faults (meaning_of l.names) l.kinds seen) (λ d. each_numbered (expression d) seen) (map expression_of l.values.items)

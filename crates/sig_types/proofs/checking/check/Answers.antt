@@ -3,13 +3,13 @@ use Rattle.std.specs.Option.{option_map}
 use Rattle.model_core.specs.Code.Views.{graph_of}
 use Rattle.model_core.specs.Code.WrittenViews.{written_model}
 use Rattle.static_laws.proofs.WholeModel.{is_accepted}
-use Rattle.sig_types.proofs.ToldError.{is_told}
+use Rattle.sig_types.proofs.FirstFaultError.{is_first_fault}
 use Rattle.sig_types.proofs.checking.check.Goals as goal
 
 pub returns-in-None-clause-accepted : goal.returns-in-None-clause-accepted
 returns-in-None-clause-accepted c =
-    is_accepted (written_model c.args.raw) (graph_of c.in_ok-model.model) c.in_ok-model.ensures.numbered (sym c.in_ok-model.ensures.told ∙ c.fault.ensures ∙ ap (option_map _) c.in-None.is)
+    is_accepted (written_model c.args.raw) (graph_of c.in_ok-model.model) c.in_ok-model.ensures.numbered (sym c.in_ok-model.ensures.earliest ∙ c.found.ensures ∙ ap (option_map _) c.in-None.is)
 
-pub returns-in-Some-clause-told : goal.returns-in-Some-clause-told
-returns-in-Some-clause-told c =
-    λ kind at is. is_told (written_model c.args.raw) c.in-Some.fault kind at (sym c.in_ok-model.ensures.told ∙ c.fault.ensures ∙ ap (option_map _) c.in-Some.is) is
+pub returns-in-Some-clause-refused : goal.returns-in-Some-clause-refused
+returns-in-Some-clause-refused c =
+    λ kind at is. is_first_fault (written_model c.args.raw) c.in-Some.found kind at (sym c.in_ok-model.ensures.earliest ∙ c.found.ensures ∙ ap (option_map _) c.in-Some.is) is

@@ -9,4 +9,4 @@ returns c =
     let lists = c.in_ok-lists.ensures in
     let watch = rw (c.items.ensures, map-items written_name c.args.raw.watch, means) at lists.4 in
     let vertices = rw (means, takes) at c.in_ok-vertices.ensures in
-    model_checked (written_model c.args.raw) start c.args.told.now lists.0 lists.1 c.check_lists.new.told c.vertices.new.told _ _ _ _ head lists.2 lists.3 watch vertices
+    model_checked (written_model c.args.raw) start c.args.fault.now lists.0 lists.1 c.check_lists.new.fault c.vertices.new.fault _ _ _ _ head lists.2 lists.3 watch vertices

@@ -10,5 +10,5 @@ invariant-loop-place g l =
     let done = declarations_from g.T.Declares.declaration 0 (map g.T.Declares.written (take l.place l.parts)) in
     record {
       means : meaning_of l.names ≡ meaning_of (l.fn.names ++ done);
-      told : l.told ≡ earliest_fault l.fn.told (redeclared l.fn.names done);
+      earliest : l.fault ≡ earliest_fault l.fn.fault (redeclared l.fn.names done);
     }

@@ -6,7 +6,7 @@ use Rattle.model_core.specs.Code.Views.{expression_of}
 use Rattle.model_core.specs.Code.WrittenViews.{written_expression, written_edge}
 use Rattle.model_core.specs.Static.Meanings.{meaning_of}
 use Rattle.model_core.specs.Static.PartFaults.{written_items, count_faults}
-use Rattle.static_laws.proofs.Checks.{behind}
+use Rattle.static_laws.proofs.Checks.{after_faults}
 use Rattle.static_laws.proofs.LeftOut.{map-items}
 use Rattle.sig_types.specs.Inner.Stored.{taken_by}
 use Rattle.sig_types.proofs.EdgeParts.{values_left_out}
@@ -17,7 +17,7 @@ returns-in-None c =
     let e = written_edge c.args.raw.now in
     let none : taken_by c.args.taken.now c.args.target ≡ None = sym c.taken_at.ensures ∙ ap (option_map _) c.in-None.is in
     rw none
-    (IfOk-weaker c.values.result _ _ (λ es. values_left_out (meaning_of c.args.names.now) c.args.taken.now c.args.told.now c.values.new.told [] e.values (map expression_of es))
+    (IfOk-weaker c.values.result _ _ (λ es. values_left_out (meaning_of c.args.names.now) c.args.taken.now c.args.fault.now c.values.new.fault [] e.values (map expression_of es))
     (rw (c.items-raws.ensures, map-items written_expression c.args.raw.now.values) at c.values.ensures))
 
 pub returns-in-Some : goal.returns-in-Some
@@ -29,6 +29,6 @@ returns-in-Some c =
     let counted = rw (c.as_slice-kinds.ensures, c.items-raws.ensures, ← given) at c.report_value_count.ensures in
     rw some
     (IfOk-weaker c.values-in-Some.result _ _
-    (λ es checked. behind c.args.told.now (count_faults e.kind (length kinds) (length (written_items e.values)) e.target.at) counted
-    (values_left_out (meaning_of c.args.names.now) c.args.taken.now c.report_value_count.new.told c.values-in-Some.new.told kinds e.values (map expression_of es) checked))
+    (λ es checked. after_faults c.args.fault.now (count_faults e.kind (length kinds) (length (written_items e.values)) e.target.at) counted
+    (values_left_out (meaning_of c.args.names.now) c.args.taken.now c.report_value_count.new.fault c.values-in-Some.new.fault kinds e.values (map expression_of es) checked))
     (rw (c.as_slice-kinds.ensures, c.items-raws.ensures, map-items written_expression c.args.raw.now.values) at c.values-in-Some.ensures))

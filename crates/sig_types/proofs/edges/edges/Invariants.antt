@@ -12,4 +12,4 @@ use Rattle.sig_types.proofs.edges.edges.Given as goal
 abbrev pub invariant-loop-raw : goal.invariant-loop-raw
 invariant-loop-raw l =
     let seen = map written_edge (take l.raw-index l.raws) in
-    CheckedPart (meaning_of l.names) l.fn.told l.told (flat_map (edge_faults (meaning_of l.names) l.taken) seen) (λ d. each_numbered (edge d) seen) (map edge_of l.edges.items)
+    CheckedPart (meaning_of l.names) l.fn.fault l.fault (flat_map (edge_faults (meaning_of l.names) l.taken) seen) (λ d. each_numbered (edge d) seen) (map edge_of l.edges.items)

@@ -6,4 +6,4 @@ use Rattle.sig_types.proofs.repeats.report_few_repeats.Given as goal
 
 -- those of the names before this one are reported
 abbrev pub invariant-loop-place : goal.invariant-loop-place
-invariant-loop-place l = l.told ≡ earliest_fault l.fn.told (repeated_names [] (map written_name (take l.place l.raws)))
+invariant-loop-place l = l.fault ≡ earliest_fault l.fn.fault (repeated_names [] (map written_name (take l.place l.raws)))

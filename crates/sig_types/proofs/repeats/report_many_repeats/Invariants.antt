@@ -10,6 +10,6 @@ abbrev pub invariant-loop-raw : goal.invariant-loop-raw
 invariant-loop-raw l =
     let seen = map written_name (take l.raw-index l.raws) in
     record {
-      told : l.told ≡ earliest_fault l.fn.told (repeated_names [] seen);
-      known : SameNames (map (λ k. k.now) l.earlier.keys) (names_before [] seen);
+      earliest : l.fault ≡ earliest_fault l.fn.fault (repeated_names [] seen);
+      seen_names : SameNames (map (λ k. k.now) l.earlier.keys) (names_before [] seen);
     }

@@ -11,6 +11,6 @@ use Rattle.sig_types.proofs.tables.check_tables.Given as goal
 -- the tables before those that are left are checked
 abbrev pub invariant-loop-raw : goal.invariant-loop-raw
 invariant-loop-raw l = record {
-  so_far : CheckedTo no_meaning table_of written_table table_faults (λ d. table) l.fn.told l.told l.fn.raws (into_iter_items l.raw-iterator) l.tables.items;
+  so_far : CheckedTo no_meaning table_of written_table table_faults (λ d. table) l.fn.fault l.fault l.fn.raws (into_iter_items l.raw-iterator) l.tables.items;
   counted : into_iter_len l.raw-iterator ≡ length (into_iter_items l.raw-iterator);
 }

@@ -12,7 +12,7 @@ abbrev pub invariant-loop-raw : goal.invariant-loop-raw
 invariant-loop-raw l =
     let seen = map written_row (take l.raw-index l.raws) in
     record {
-      checked : CheckedPlain l.fn.told l.told (rows_faults (pos 0) seen) (each_numbered row seen) (map weighted_of l.rows.items);
+      checked : CheckedPlain l.fn.fault l.fault (rows_faults (pos 0) seen) (each_numbered row seen) (map weighted_of l.rows.items);
       sum : l.sum ≡ weights_sum (pos 0) seen;
       low : neg_ℤ (pos (l.raw-index * 9223372036854775808)) ≤ℤ l.sum;
       high : l.sum ≤ℤ pos (l.raw-index * 9223372036854775808);

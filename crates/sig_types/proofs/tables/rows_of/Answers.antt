@@ -4,7 +4,7 @@ use Rattle.sig_base.specs.declared.limits.TheConstants.{ROWS_MAX}
 use Rattle.model_core.specs.Code.WrittenViews.{written_table}
 use Rattle.model_core.specs.Text.Written.{WrittenRow}
 use Rattle.model_core.specs.Static.RuleTable.{name_too_long, too_many}
-use Rattle.static_laws.proofs.Checks.{behind, told_both}
+use Rattle.static_laws.proofs.Checks.{after_faults, earliest_in_turn}
 use Rattle.sig_types.proofs.tables.rows_of.Goals as goal
 
 pub returns : goal.returns
@@ -12,5 +12,5 @@ returns c =
     let t = written_table c.args.raw.now in
     let long = name_too_long t.name in
     let many = too_many ROWS_MAX (map (λ (r : WrittenRow). r.at) t.rows) in
-    let told = told_both c.args.told.now c.report_long_name.new.told c.report_too_many.new.told long many c.report_long_name.ensures (rw c.as_slice.ensures at c.report_too_many.ensures) in
-    IfOk-weaker c.rows.result _ _ (λ rows checked. behind c.args.told.now (long ++ many) told (rw c.as_slice-2.ensures at checked)) c.rows.ensures
+    let reported = earliest_in_turn c.args.fault.now c.report_long_name.new.fault c.report_too_many.new.fault long many c.report_long_name.ensures (rw c.as_slice.ensures at c.report_too_many.ensures) in
+    IfOk-weaker c.rows.result _ _ (λ rows checked. after_faults c.args.fault.now (long ++ many) reported (rw c.as_slice-2.ensures at checked)) c.rows.ensures

@@ -11,6 +11,6 @@ use Rattle.sig_types.proofs.variables.check_variables.Given as goal
 -- the variables before those that are left are checked
 abbrev pub invariant-loop-raw : goal.invariant-loop-raw
 invariant-loop-raw l = record {
-  so_far : CheckedTo no_meaning variable_of written_variable variable_faults (λ d. variable) l.fn.told l.told l.fn.raws (into_iter_items l.raw-iterator) l.vars.items;
+  so_far : CheckedTo no_meaning variable_of written_variable variable_faults (λ d. variable) l.fn.fault l.fault l.fn.raws (into_iter_items l.raw-iterator) l.vars.items;
   counted : into_iter_len l.raw-iterator ≡ length (into_iter_items l.raw-iterator);
 }

@@ -7,4 +7,4 @@ use Rattle.sig_types.proofs.versions.report_array_sizes.Given as goal
 
 -- those of the variables before this one are reported
 abbrev pub invariant-loop-raw : goal.invariant-loop-raw
-invariant-loop-raw l = l.told ≡ earliest_fault l.fn.told (flat_map size_faults_version_1 (map written_variable (take l.raw-index l.raws)))
+invariant-loop-raw l = l.fault ≡ earliest_fault l.fn.fault (flat_map size_faults_version_1 (map written_variable (take l.raw-index l.raws)))

@@ -1,7 +1,7 @@
 use Rattle.model_core.specs.Code.WrittenViews.{written_edge}
 use Rattle.model_core.specs.Static.VersionFaults.{delay_faults_version_1}
 use Rattle.model_core.specs.Text.Written.{WrittenEdge}
-use Rattle.sig_types.proofs.ToldInTurn.{report_turn}
+use Rattle.sig_types.proofs.FaultsInTurn.{report_turn}
 use Rattle.sig_types.proofs.versions.report_drawn_delays.Goals as goal
 
 pub loop-raw-preserved : goal.loop-raw-preserved

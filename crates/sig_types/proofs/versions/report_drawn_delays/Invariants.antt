@@ -8,4 +8,4 @@ use Rattle.sig_types.proofs.versions.report_drawn_delays.Given as goal
 
 -- those of the edges before this one are reported
 abbrev pub invariant-loop-raw : goal.invariant-loop-raw
-invariant-loop-raw l = l.told ≡ earliest_fault l.fn.told (flat_map (λ (e : WrittenEdge). delay_faults_version_1 e.kind) (map written_edge (take l.raw-index l.raws)))
+invariant-loop-raw l = l.fault ≡ earliest_fault l.fn.fault (flat_map (λ (e : WrittenEdge). delay_faults_version_1 e.kind) (map written_edge (take l.raw-index l.raws)))

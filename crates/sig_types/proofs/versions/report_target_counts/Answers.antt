@@ -1,6 +1,6 @@
 use Rattle.model_core.specs.Code.WrittenViews.{written_change}
 use Rattle.model_core.specs.Static.VersionFaults.{target_faults_version_1}
-use Rattle.sig_types.proofs.ToldInTurn.{report_turn}
+use Rattle.sig_types.proofs.FaultsInTurn.{report_turn}
 use Rattle.sig_types.proofs.versions.report_target_counts.Goals as goal
 
 pub loop-raw-preserved : goal.loop-raw-preserved

@@ -7,4 +7,4 @@ use Rattle.sig_types.proofs.versions.report_target_counts.Given as goal
 
 -- those of the changes before this one are reported
 abbrev pub invariant-loop-raw : goal.invariant-loop-raw
-invariant-loop-raw l = l.told ≡ earliest_fault l.fn.told (flat_map target_faults_version_1 (map written_change (take l.raw-index l.raws)))
+invariant-loop-raw l = l.fault ≡ earliest_fault l.fn.fault (flat_map target_faults_version_1 (map written_change (take l.raw-index l.raws)))

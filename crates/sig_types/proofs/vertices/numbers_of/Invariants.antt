@@ -11,4 +11,4 @@ use Rattle.sig_types.proofs.vertices.numbers_of.Given as goal
 abbrev pub invariant-loop-raw : goal.invariant-loop-raw
 invariant-loop-raw l =
     let seen = map written_name (take l.raw-index l.raws) in
-    CheckedPart (meaning_of l.names) l.fn.told l.told (flat_map (use_faults (meaning_of l.names) AsScalar) seen) (λ d. each_numbered (numbered_parameter d) seen) l.vars.items
+    CheckedPart (meaning_of l.names) l.fn.fault l.fault (flat_map (use_faults (meaning_of l.names) AsScalar) seen) (λ d. each_numbered (numbered_parameter d) seen) l.vars.items

@@ -12,4 +12,4 @@ use Rattle.sig_types.proofs.watch.all_watched.Given as goal
 abbrev pub invariant-loop-raw : goal.invariant-loop-raw
 invariant-loop-raw l =
     let seen = map written_name (take l.raw-index l.raws) in
-    CheckedPart (meaning_of l.names) l.fn.told l.told (flat_map (use_faults (meaning_of l.names) AsWatched) seen) (λ d. each_numbered (watched d) seen) (map watched_of l.watch.items)
+    CheckedPart (meaning_of l.names) l.fn.fault l.fault (flat_map (use_faults (meaning_of l.names) AsWatched) seen) (λ d. each_numbered (watched d) seen) (map watched_of l.watch.items)

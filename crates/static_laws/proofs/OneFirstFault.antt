@@ -11,7 +11,7 @@ use Rattle.model_core.specs.Static.FaultOrder.{StaticFault, rule_row, is_earlier
 use Rattle.model_core.specs.Static.ModelFaults.{faults_of_parts, model_faults, Broken, IsFirstFault, first_fault, Accepted}
 use Rattle.model_core.specs.Static.VersionFaults.{version_faults}
 use Rattle.model_core.proofs.EmptyLists.{left_empty}
-use Rattle.static_laws.proofs.ToldFaults.{IsLeast, not_before_place, not_before_row, earliest_is_least, none_told}
+use Rattle.static_laws.proofs.EarliestFaults.{IsLeast, not_before_place, not_before_row, earliest_is_least, earliest_fault-none}
 use Rattle.static_laws.proofs.StaticTwins.ModelTwin.{empty_contains, none_of_parts, parts_kept}
 
 -- ---- each rule has a place of its own in the table
@@ -69,13 +69,13 @@ one_fault f g a b = ap (λ kind. fault_of kind f.at) one_kind ∙ ap (fault_of g
         (not_before_row g.at (rule_row g.kind) (rule_row f.kind) (subst (λ at. is_earlier_fault (fault_of f.kind at) g ≡ false) one_byte b)))
 
 -- lists that have the same faults have the same first one
-pub same_told : (fs gs : List StaticFault) → ((f : StaticFault) → Contains fs f → Contains gs f) → ((f : StaticFault) → Contains gs f → Contains fs f) → earliest_fault None fs ≡ earliest_fault None gs
-same_told fs gs to from = by_case (earliest_fault None fs) refl (earliest_fault None gs) refl
+pub same_earliest : (fs gs : List StaticFault) → ((f : StaticFault) → Contains fs f → Contains gs f) → ((f : StaticFault) → Contains gs f → Contains fs f) → earliest_fault None fs ≡ earliest_fault None gs
+same_earliest fs gs to from = by_case (earliest_fault None fs) refl (earliest_fault None gs) refl
   where
     by_case : (o : Option StaticFault) → earliest_fault None fs ≡ o → (p : Option StaticFault) → earliest_fault None gs ≡ p → o ≡ p
     by_case None e None h = refl
-    by_case None e (Some g) h = absurd (empty_contains g (subst (λ xs. Contains xs g) (none_told fs e) (from g (earliest_is_least gs g h).among)))
-    by_case (Some f) e None h = absurd (empty_contains f (subst (λ xs. Contains xs f) (none_told gs h) (to f (earliest_is_least fs f e).among)))
+    by_case None e (Some g) h = absurd (empty_contains g (subst (λ xs. Contains xs g) (earliest_fault-none fs e) (from g (earliest_is_least gs g h).among)))
+    by_case (Some f) e None h = absurd (empty_contains f (subst (λ xs. Contains xs f) (earliest_fault-none gs h) (to f (earliest_is_least fs f e).among)))
     by_case (Some f) e (Some g) h =
         let l = earliest_is_least fs f e in
         let m = earliest_is_least gs g h in
@@ -83,14 +83,14 @@ same_told fs gs to from = by_case (earliest_fault None fs) refl (earliest_fault 
 
 -- the order in which faults are noted doesn't matter
 pub either_order : (fs gs : List StaticFault) → earliest_fault None (fs ++ gs) ≡ earliest_fault None (gs ++ fs)
-either_order fs gs = same_told (fs ++ gs) (gs ++ fs) (exchanged fs gs) (exchanged gs fs)
+either_order fs gs = same_earliest (fs ++ gs) (gs ++ fs) (exchanged fs gs) (exchanged gs fs)
   where
     exchanged : (xs ys : List StaticFault) (f : StaticFault) → Contains (xs ++ ys) f → Contains (ys ++ xs) f
     exchanged xs ys f c = elim (Contains-append_cases xs ys f c) [ inl a ↦ Contains-append_right ys xs f a | inr b ↦ Contains-append_left ys xs f b ]
 
 module _ (m : WrittenModel) where
-  earliest_told : (f : StaticFault) → first_fault m ≡ Some f → IsFirstFault m f.kind f.at
-  earliest_told f e = record {
+  earliest_is_first : (f : StaticFault) → first_fault m ≡ Some f → IsFirstFault m f.kind f.at
+  earliest_is_first f e = record {
     broken = least.among;
     least = λ other place b. not_before_place f.at (rule_row f.kind) place (rule_row other) (least.least (record { at = place; kind = other }) b);
     first = λ other b. not_before_row f.at (rule_row f.kind) (rule_row other) (least.least (record { at = f.at; kind = other }) b);
@@ -100,8 +100,8 @@ module _ (m : WrittenModel) where
       least = earliest_is_least (model_faults m) f e
 
   -- no two faults are first
-  one_told : (f g : StaticFault) → IsFirstFault m f.kind f.at → IsFirstFault m g.kind g.at → f ≡ g
-  one_told f g t u = ap (λ kind. fault_of kind f.at) one_kind ∙ ap (fault_of g.kind) one_byte
+  one_first : (f g : StaticFault) → IsFirstFault m f.kind f.at → IsFirstFault m g.kind g.at → f ≡ g
+  one_first f g t u = ap (λ kind. fault_of kind f.at) one_kind ∙ ap (fault_of g.kind) one_byte
     where
       one_byte : f.at ≡ g.at
       one_byte = both_ways f.at g.at (t.least g.kind g.at u.broken) (u.least f.kind f.at t.broken)
@@ -114,28 +114,28 @@ module _ (m : WrittenModel) where
   nothing_broken : model_faults m ≡ [] → (kind : StaticKind) (at : ℕ) → ¬ Broken m kind at
   nothing_broken e kind at b = empty_contains (record { at = at; kind = kind }) (subst (λ fs. Contains fs (record { at = at; kind = kind })) e b)
 
-  told_earliest : (f : StaticFault) → IsFirstFault m f.kind f.at → first_fault m ≡ Some f
-  told_earliest f t = by_case (first_fault m) refl
+  first_is_earliest : (f : StaticFault) → IsFirstFault m f.kind f.at → first_fault m ≡ Some f
+  first_is_earliest f t = by_case (first_fault m) refl
     where
       by_case : (o : Option StaticFault) → first_fault m ≡ o → first_fault m ≡ Some f
-      by_case None e = absurd (nothing_broken (none_told (model_faults m) e) f.kind f.at t.broken)
-      by_case (Some g) e = e ∙ ap Some (one_told g f (earliest_told g e) t)
+      by_case None e = absurd (nothing_broken (earliest_fault-none (model_faults m) e) f.kind f.at t.broken)
+      by_case (Some g) e = e ∙ ap Some (one_first g f (earliest_is_first g e) t)
 
   pub found_is_first_fault : (f : StaticFault) → first_fault m ≡ Some f ↔ IsFirstFault m f.kind f.at
-  found_is_first_fault f = (earliest_told f, told_earliest f)
+  found_is_first_fault f = (earliest_is_first f, first_is_earliest f)
 
-  not_told : ((g : EventGraph) × Accepted m g) → first_fault m ≡ None
-  not_told (g, a) = by_case (first_fault m) refl
+  no_first_fault : ((g : EventGraph) × Accepted m g) → first_fault m ≡ None
+  no_first_fault (g, a) = by_case (first_fault m) refl
     where
       by_case : (o : Option StaticFault) → first_fault m ≡ o → first_fault m ≡ None
       by_case None e = e
-      by_case (Some f) e = absurd (a.unbroken f.kind f.at (earliest_told f e).broken)
+      by_case (Some f) e = absurd (a.unbroken f.kind f.at (earliest_is_first f e).broken)
 
-  accepted_unless_told : first_fault m ≡ None → (g : EventGraph) × Accepted m g
-  accepted_unless_told e =
-      let nothing = none_told (model_faults m) e in
+  accepted_unless_fault : first_fault m ≡ None → (g : EventGraph) × Accepted m g
+  accepted_unless_fault e =
+      let nothing = earliest_fault-none (model_faults m) e in
       let (g, numbers, keeps, by_kind) = parts_kept m (left_empty (faults_of_parts m) (version_faults m) (none_of_parts m _ (faults_of_parts m ++ version_faults m) nothing)) in
       (g, record { unbroken = nothing_broken nothing; numbers = numbers })
 
   pub accepted_or_first_fault : first_fault m ≡ None ↔ ((g : EventGraph) × Accepted m g)
-  accepted_or_first_fault = (accepted_unless_told, not_told)
+  accepted_or_first_fault = (accepted_unless_fault, no_first_fault)

@@ -24,7 +24,7 @@ impl Model for FirstFault {
     ghost use Rattle.std.specs.Prelude.{Option};
     ghost use Rattle.std.specs.Option.{option_map};
     ghost use Rattle.model_core.specs.Static.FaultOrder.{StaticFault};
-    ghost use Rattle.sig_types.specs.declared.told.Fault.{Fault};
+    ghost use Rattle.sig_types.specs.declared.first_fault.Fault.{Fault};
 
     ghost Value = { Option StaticFault };
 
@@ -55,8 +55,8 @@ impl FirstFault {
         FirstFault { fault: None }
     }
 
-    /// The first fault.
-    pub fn fault(&self) -> Option<Fault>
+    /// The first fault, where one was found.
+    pub fn found(&self) -> Option<Fault>
         ensures { self.now ≡ option_map (λ f. record { at = f.at; kind = f.kind }) result }
     {
         self.fault
