@@ -2,10 +2,10 @@
 use Rattle.std.proofs.Common.{◌≡◌, ℕ, ◌==◌, ◌||◌, Bool, true, false, cond, List, [], ◌∷◌, ◌++◌, map, refl, sym, ap, subst, ◌∙◌}
 use Rattle.std.proofs.Math.Bool.{or_assoc, or-false}
 use Rattle.std.specs.Prelude.{filter}
+use Rattle.std.proofs.lemmas.Bool.{eqb-true}
 use Rattle.model_core.specs.Rules.MarkedPlaces.{is_among}
 use Rattle.model_core.specs.Rules.Needed.{drawn_from}
 use Rattle.model_core.proofs.AmongUses.{among-append}
-use Rattle.mark_laws.proofs.EntailedMarks.{same-place}
 use Rattle.var_slicing.specs.Inner.Needing.{with_stream, with_streams}
 
 -- streams after others are all of them
@@ -15,9 +15,9 @@ streams-both streams (s ∷ ss) ts = streams-both (with_stream streams s) ss ts
 
 -- a stream that is among them already
 once-more : (streams : List ℕ) (s k : ℕ) → is_among streams s ≡ true → is_among streams k ≡ (is_among streams k || (s == k))
-once-more streams s k known = tested (s == k) refl where
+once-more streams s k among_them = tested (s == k) refl where
   tested : (b : Bool) → (s == k) ≡ b → is_among streams k ≡ (is_among streams k || b)
-  tested true is = let there : is_among streams k ≡ true = subst (λ (j : ℕ). is_among streams j ≡ true) (same-place s k is) known in rw there refl
+  tested true is = let there : is_among streams k ≡ true = subst (λ (j : ℕ). is_among streams j ≡ true) (eqb-true s k is) among_them in rw there refl
   tested false is = sym (or-false (is_among streams k))
 
 among-with_stream : (streams : List ℕ) (s k : ℕ) → is_among (with_stream streams s) k ≡ (is_among streams k || (s == k))

@@ -2,6 +2,7 @@
 use Rattle.std.proofs.Common.{◌≡◌, ℕ, ◌+◌, ℤ, ◌==◌, Bool, true, false, cond, ◌&&◌, List, map, Ok, refl, sym, ◌∙◌, ap, ap₂, subst}
 use Rattle.std.proofs.lemmas.List.{map-append}
 use Rattle.std.specs.List.{AllByRecursion}
+use Rattle.std.proofs.lemmas.Bool.{eqb-true}
 use Rattle.sig_base.proofs.Lists.{every-always}
 use Rattle.sig_base.specs.Stream.{word}
 use Rattle.model_core.specs.EventGraph.{EventGraph, EventEdge, Delay, Fixed, Drawn, EdgeKind, Schedule, Urgent, CancelNext, CancelEqual, CancelAll}
@@ -18,7 +19,6 @@ use Rattle.model_core.proofs.Alongside.{Alongside, both_go, bind-alongside, bind
 use Rattle.run_laws.proofs.MappedPending.{KeepsDue, without_next-mapped, without_all-mapped, without_next-every, without_all-every}
 use Rattle.run_laws.proofs.LockStep.{entry_mapped}
 use Rattle.mark_laws.proofs.Marks.{Marked}
-use Rattle.mark_laws.proofs.EntailedMarks.{same-place}
 use Rattle.model_core.proofs.EachOne.{every-joined}
 use Rattle.var_slicing.proofs.StoresLeft.{StateLeft}
 use Rattle.var_slicing.proofs.ValuesLeft.{ReadsMarked, all-items_where_marked, CanBeStored, ValuesFit, ValuesKept, value-left, values-alongside}
@@ -44,7 +44,7 @@ keeps_due g marks = record { times = λ e. refl; priorities = λ e. refl }
 with-left : (g : EventGraph) (marks : List Bool) (target : ℕ) (xs : List ℤ) → AllByRecursion (Marked marks) (vertex_at g target).parameters → (e : Entry) → is_event_with target xs (entry_left g marks e) ≡ is_event_with target xs e
 with-left g marks target xs all e = one (e.vertex == target) refl where
   one : (b : Bool) → (e.vertex == target) ≡ b → (b && same_values (carried_left g marks e) xs) ≡ (b && same_values e.values xs)
-  one true is = ap (λ ys. same_values ys xs) (all-items_where_marked marks (vertex_at g e.vertex).parameters e.values (subst (λ k. AllByRecursion (Marked marks) (vertex_at g k).parameters) (sym (same-place e.vertex target is)) all))
+  one true is = ap (λ ys. same_values ys xs) (all-items_where_marked marks (vertex_at g e.vertex).parameters e.values (subst (λ k. AllByRecursion (Marked marks) (vertex_at g k).parameters) (sym (eqb-true e.vertex target is)) all))
   one false is = refl
 
 -- ---- edges

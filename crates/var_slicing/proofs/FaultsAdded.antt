@@ -6,10 +6,9 @@ use Rattle.model_core.specs.Rules.BoundsOfParts.{quiet_set, quiet_change}
 use Rattle.model_core.specs.Rules.MarkedPlaces.{is_marked}
 use Rattle.model_core.specs.Rules.Needed.{all_changes, all_edges, carried_pairs, faulting_target, faulting_writes, faulting_parameters}
 use Rattle.mark_laws.proofs.Marks.{Marked}
-use Rattle.model_core.proofs.Among.{Among, among-front, among-back, among-either, among-flat_map}
+use Rattle.model_core.proofs.Among.{Among, among-front, among-back, among-either, among-flat_map, among-of_flat_map}
 use Rattle.var_slicing.specs.Inner.Needing.{added_each}
 use Rattle.var_slicing.specs.Inner.Faulting.{fault_unless, faults_in_change, faults_in_edge, faults_in_vertex, with_faults, faulting_unless}
-use Rattle.var_slicing.proofs.LeadingLaws.{among-of_flat_map}
 use Rattle.var_slicing.proofs.LeavingOut.{LeavesOut, left-each}
 
 pub added-flat : {A C : Type 0} (f : A → List C) (xs : List A) (out : List C) → added_each f xs out ≡ out ++ flat_map f xs

@@ -4,21 +4,15 @@ use Rattle.std.specs.Prelude.{filter, is_none}
 use Rattle.std.specs.Option.{option_map_or}
 use Rattle.std.specs.List.{flat_map}
 use Rattle.std.proofs.lemmas.Bool.Decides.{nat_tests}
+use Rattle.std.proofs.lemmas.Bool.{eqb-true}
 use Rattle.model_core.specs.Rules.LeastRelations.{Entailed, over_pair}
 use Rattle.model_core.specs.Rules.Needed.{needed_by_streams}
-use Rattle.model_core.proofs.Among.{Among, contained-among, among-map, among-of_map, among-front, among-back, among-flat_map, among-either, among-filter}
+use Rattle.model_core.proofs.Among.{Among, contained-among, among-map, among-of_map, among-front, among-back, among-flat_map, among-either, among-filter, among-of_flat_map}
 use Rattle.model_core.proofs.PlacesChanged.{same_number}
-use Rattle.mark_laws.proofs.EntailedMarks.{same-place, entailed-below, Implied}
+use Rattle.mark_laws.proofs.EntailedMarks.{entailed-below, Implied}
 use Rattle.var_slicing.specs.Inner.Leading.{leader, next_leaders, leaders_after, leaders_of, leader_pairs}
 
 -- ---- what flat maps and filters hold
-
-pub among-of_flat_map : {A B : Type 0} (f : A → List B) (xs : List A) (y : B) → Among y (flat_map f xs) → (x : A) × Among x xs × Among y (f x)
-among-of_flat_map f [] y among = absurd among
-among-of_flat_map {A} {B} f (z ∷ xs) y among = by (among-either (f z) (flat_map f xs) y among) (among-of_flat_map f xs y) where
-  by : Among y (f z) ⊎ Among y (flat_map f xs) → (Among y (flat_map f xs) → (x : A) × Among x xs × Among y (f x)) → (x : A) × Among x (z ∷ xs) × Among y (f x)
-  by (inl here) rest = (z, inl refl, here)
-  by (inr later) rest = let (x, among, there) = rest later in (x, inr among, there)
 
 pub among-filtered : {A : Type 0} (test : A → Bool) (xs : List A) (x : A) → Among x (filter test xs) → Among x xs × (test x ≡ true)
 among-filtered test [] x among = absurd among
@@ -48,7 +42,7 @@ leader-among : (xs : List (ℕ × ℕ)) (s l : ℕ) → leader xs s ≡ Some l �
 leader-among [] s l is = cc
 leader-among ((r, v) ∷ xs) s l is = tested (r == s) refl is (leader-among xs s l) where
   tested : (b : Bool) → (r == s) ≡ b → cond b (Some v) (leader xs s) ≡ Some l → (leader xs s ≡ Some l → Among (s, l) xs) → Among (s, l) ((r, v) ∷ xs)
-  tested true same e rest = inl (let first : r ≡ s = same-place r s same in let second : v ≡ l = cc in cc)
+  tested true same e rest = inl (let first : r ≡ s = eqb-true r s same in let second : v ≡ l = cc in cc)
   tested false same e rest = inr (rest e)
 
 -- there is a leader
@@ -170,7 +164,7 @@ module _ (count : ℕ) where
       let (also, same) = among-filtered (λ ((r, w) : ℕ × ℕ). r == p.0) draws q kept in
       let first : p.1 ≡ j = ap (λ (p : ℕ × ℕ). p.0) is in
       let second : q.1 ≡ k = ap (λ (p : ℕ × ℕ). p.1) is in
-      let stream : q.0 ≡ p.0 = same-place q.0 p.0 same in
+      let stream : q.0 ≡ p.0 = eqb-true q.0 p.0 same in
       (p.0, subst (λ (n : ℕ). Among (p.0, n) draws) first drawn, subst (λ (n : ℕ). Among (p.0, n) draws) second (subst (λ (n : ℕ). Among (n, q.1) draws) stream also))
 
   pub one_stream-streams : (draws : List (ℕ × ℕ)) (j k : ℕ) → OneStream draws j k → Among (j, k) (needed_by_streams draws)

@@ -14,8 +14,8 @@ module _ {A : Type 0} (P : A → Type 0) where
   left-joined xs fewer ys less front back = (to, from) where
     to : (x : A) → Among x (xs ++ ys) → P x ⊎ Among x (fewer ++ less)
     to x h = elim (among-either xs ys x h) [
-      | inl here ↦ elim (front.0 x here) [ inl known ↦ inl known | inr stays ↦ inr (among-front fewer less x stays) ]
-      | inr there ↦ elim (back.0 x there) [ inl known ↦ inl known | inr stays ↦ inr (among-back fewer less x stays) ]
+      | inl here ↦ elim (front.0 x here) [ inl leads ↦ inl leads | inr stays ↦ inr (among-front fewer less x stays) ]
+      | inr there ↦ elim (back.0 x there) [ inl leads ↦ inl leads | inr stays ↦ inr (among-back fewer less x stays) ]
     ]
 
     from : (x : A) → Among x (fewer ++ less) → Among x (xs ++ ys)

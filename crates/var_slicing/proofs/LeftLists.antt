@@ -9,8 +9,8 @@ use Rattle.var_slicing.specs.Inner.Beside.{keeps_beside}
 
 -- ---- an element that stays or goes
 
-told : {A : Type 0} {b c : Bool} {x y : A} (rest : List A) → b ≡ c → x ≡ y → cond b (x ∷ []) [] ++ rest ≡ cond c (y ∷ []) [] ++ rest
-told {A} rest same is = ap₂ (λ (b : Bool) (x : A). cond b (x ∷ []) [] ++ rest) same is
+first_same : {A : Type 0} {b c : Bool} {x y : A} (rest : List A) → b ≡ c → x ≡ y → cond b (x ∷ []) [] ++ rest ≡ cond c (y ∷ []) [] ++ rest
+first_same {A} rest same is = ap₂ (λ (b : Bool) (x : A). cond b (x ∷ []) [] ++ rest) same is
 
 first_or_none : {A : Type 0} (b : Bool) (x : A) (xs : List A) → cond b (x ∷ xs) xs ≡ cond b (x ∷ []) [] ++ xs
 first_or_none true x xs = refl
@@ -28,7 +28,7 @@ values-first marks (v ∷ vs) zero x rest = tested (is_marked marks v) where
 values-first marks (v ∷ vs) (suc i) x rest = values-first marks vs i x rest
 
 pub values-at : (marks : List Bool) (vars : List ℕ) (i : ℕ) (x y : Expression) (b : Bool) → b ≡ keeps_beside marks vars i → y ≡ expression_renumbered (rank marks) x → (rest : List Expression) → sliced_values marks (drop i vars) (x ∷ rest) ≡ cond b (y ∷ []) [] ++ sliced_values marks (drop (suc i) vars) rest
-values-at marks vars i x y b stays is rest = values-first marks vars i x rest ∙ told _ (sym stays) (sym is)
+values-at marks vars i x y b stays is rest = values-first marks vars i x rest ∙ first_same _ (sym stays) (sym is)
 
 pub values-none : (marks : List Bool) (vars : List ℕ) → sliced_values marks vars [] ≡ []
 values-none marks [] = refl
@@ -43,7 +43,7 @@ variable_there (u ∷ ts) (suc k) t there is = variable_there ts k t (omega arit
 -- ---- parameters and targets
 
 pub parameters-at : (marks : List Bool) (v r : ℕ) (b : Bool) → b ≡ is_marked marks v → r ≡ rank marks v → (rest : List ℕ) → sliced_parameters marks (v ∷ rest) ≡ cond b (r ∷ []) [] ++ sliced_parameters marks rest
-parameters-at marks v r b stays is rest = first_or_none (is_marked marks v) (rank marks v) (sliced_parameters marks rest) ∙ told _ (sym stays) (sym is)
+parameters-at marks v r b stays is rest = first_or_none (is_marked marks v) (rank marks v) (sliced_parameters marks rest) ∙ first_same _ (sym stays) (sym is)
 
 pub targets-at : (marks : List Bool) (l m : Location) (b : Bool) → b ≡ is_marked marks l.variable → m ≡ location_renumbered (rank marks) l → (rest : List Location) → sliced_targets marks (l ∷ rest) ≡ cond b (m ∷ []) [] ++ sliced_targets marks rest
-targets-at marks l m b stays is rest = first_or_none (is_marked marks l.variable) (location_renumbered (rank marks) l) (sliced_targets marks rest) ∙ told _ (sym stays) (sym is)
+targets-at marks l m b stays is rest = first_or_none (is_marked marks l.variable) (location_renumbered (rank marks) l) (sliced_targets marks rest) ∙ first_same _ (sym stays) (sym is)

@@ -21,12 +21,13 @@ use Rattle.var_slicing.proofs.LeftLists.{values-none}
 use Rattle.var_slicing.proofs.ValuesLeft.{all-items_where_marked}
 use Rattle.var_slicing.proofs.NeedsClosed.{ChangeNeeds, CarriedNeed, KindNeeds, EdgeNeeds}
 use Rattle.var_slicing.proofs.QuietStores.{takes-parameters}
-use Rattle.model_core.proofs.SomeOfAList.{some-items_where_marked, some-few, some-texts, some-in_parentheses}
+use Rattle.model_core.proofs.SomeOfAList.{some-texts, some-in_parentheses}
 use Rattle.var_slicing.proofs.RenumberedTexts.{openings-renumbered, delay_openings-renumbered, condition_text-renumbered}
 use Rattle.var_slicing.proofs.KeptBeside.{variables_of, targets-kept, TargetMarked, TargetsRead, ValuesRead, targets-marked, parameters-kept, parameters-marked, zip-kept, zip-mapped, set-reads, carried-reads}
 use Rattle.model_core.proofs.NoLongerTexts.{NoLonger, no_longer-after, no_longer-before, no_longer-both, no_longer-same}
 use Rattle.model_core.proofs.NotEmpty.{has_one-map}
 use Rattle.var_slicing.proofs.PartsLeft.{all-declared, variable-of_left, kind-of_left, spellable-left, delay-keeps, delay-spellable, delay_text-left, source-keeps, source-spellable, source_text-left, takes-left, location_text-left, location-spellable, location_openings-left, target-texts, targets-spellable, target-openings, value-texts, values-spellable, value-openings, values_openings-left, values-given}
+use Rattle.var_slicing.proofs.VersionLeft.{targets-few}
 
 -- a `set` is left, or none where nothing of it stays
 set-cases : (P : List StateChange → Type 0) (R : Location → Kind → Type 0) (S : Expression → Kind → Type 0) (ls : List Location) (es : List Expression) (ks : List Kind) → AllZip R ls ks → AllZip S es ks → P [] → (IsNonEmpty ls → IsNonEmpty es → P (Set ls es ∷ [])) → P (set_or_nothing ls es)
@@ -40,15 +41,15 @@ set-cases P R S (l ∷ ls) (e ∷ es) ks taken given none one = one tt tt
 one_line : {A : Type 0} (line : A → List ℕ) (x : A) (y : List ℕ) → NoLonger (line x) y → NoLonger (flat_map line (x ∷ [])) y
 one_line line x y shorter = record { at_most = let e = shorter.at_most in omega (arith, length-append (line x) [], e) }
 
-takes-left_behind : (g : EventGraph) (marks : List Bool) (vs : List EventVertex) (k : ℕ) (ps : List ℕ) → slice_get (map (λ (v : EventVertex). v.parameters) vs) k ≡ Some ps → slice_get (map (λ (v : EventVertex). v.parameters) (map (sliced_vertex g marks) vs)) k ≡ Some (sliced_parameters marks ps)
-takes-left_behind g marks [] k ps e = cc
-takes-left_behind g marks (v ∷ vs) zero ps e = let same : v.parameters ≡ ps = cc in ap (λ ps. Some (sliced_parameters marks ps)) same
-takes-left_behind g marks (v ∷ vs) (suc k) ps e = takes-left_behind g marks vs k ps e
+takes-left_at : (g : EventGraph) (marks : List Bool) (vs : List EventVertex) (k : ℕ) (ps : List ℕ) → slice_get (map (λ (v : EventVertex). v.parameters) vs) k ≡ Some ps → slice_get (map (λ (v : EventVertex). v.parameters) (map (sliced_vertex g marks) vs)) k ≡ Some (sliced_parameters marks ps)
+takes-left_at g marks [] k ps e = cc
+takes-left_at g marks (v ∷ vs) zero ps e = let same : v.parameters ≡ ps = cc in ap (λ ps. Some (sliced_parameters marks ps)) same
+takes-left_at g marks (v ∷ vs) (suc k) ps e = takes-left_at g marks vs k ps e
 
-name-behind : (g : EventGraph) (marks : List Bool) (vs : List EventVertex) (k : ℕ) → option_map_or (λ (v : EventVertex). v.name) (slice_get (map (sliced_vertex g marks) vs) k) [] ≡ option_map_or (λ (v : EventVertex). v.name) (slice_get vs k) []
-name-behind g marks [] k = refl
-name-behind g marks (v ∷ vs) zero = refl
-name-behind g marks (v ∷ vs) (suc k) = name-behind g marks vs k
+name-left_at : (g : EventGraph) (marks : List Bool) (vs : List EventVertex) (k : ℕ) → option_map_or (λ (v : EventVertex). v.name) (slice_get (map (sliced_vertex g marks) vs) k) [] ≡ option_map_or (λ (v : EventVertex). v.name) (slice_get vs k) []
+name-left_at g marks [] k = refl
+name-left_at g marks (v ∷ vs) zero = refl
+name-left_at g marks (v ∷ vs) (suc k) = name-left_at g marks vs k
 
 module _ (g : EventGraph) (marks live : List Bool) where
   abbrev h : EventGraph
@@ -76,7 +77,7 @@ module _ (g : EventGraph) (marks live : List Bool) where
   KeepsLeft = KeepsChange h.variables tables (parameters_of h)
 
   pub vertex_name-left : (k : ℕ) → vertex_name h k ≡ vertex_name g k
-  vertex_name-left k = name-behind g marks g.vertices k
+  vertex_name-left k = name-left_at g marks g.vertices k
 
   -- ---- changes
 
@@ -86,13 +87,6 @@ module _ (g : EventGraph) (marks live : List Bool) where
       let kinds = items_where_marked marks (variables_of ls) ks in
       subst (λ (ls : List Location). AllZip TakesLeft ls kinds) (sym (targets-kept marks ls))
       (zip-mapped (TargetMarked marks) Takes TakesLeft (location_renumbered f) (takes-left g marks tables (parameters_of g) (parameters_of h)) kept kinds (targets-marked marks ls reads) (zip-kept Takes marks (variables_of ls) ls ks taken))
-
-  targets-few : (ls : List Location) → length (sliced_targets marks ls) ≤ length ls
-  targets-few ls =
-      let kept = items_where_marked marks (variables_of ls) ls in
-      let same = ap length (targets-kept marks ls) ∙ length-map kept (location_renumbered f) in
-      let few = some-few (some-items_where_marked marks (variables_of ls) ls) in
-      omega (arith, same, few)
 
   -- what is known of the parts of a `set`
   record SetRead (targets : List Location) (rights : List Expression) : Type 0 where
@@ -118,7 +112,7 @@ module _ (g : EventGraph) (marks live : List Bool) where
   change-keeps (Set targets rights) keep needs =
       let read = set_read targets rights keep needs in
       set-cases (AllByRecursion KeepsLeft) TakesLeft (HasKind h.variables) (sliced_targets marks targets) (sliced_values marks (variables_of targets) rights) read.kinds_left read.taken read.given tt
-      (λ one too. ((le_trans (targets-few targets) keep.0, record { kinds = read.kinds_left; taken = read.taken; given = read.given }), tt))
+      (λ one too. ((le_trans (targets-few marks targets) keep.0, record { kinds = read.kinds_left; taken = read.taken; given = read.given }), tt))
   change-keeps (Draw target stream choice) keep needs = tested (is_marked marks target.variable) refl where
     tested : (b : Bool) → is_marked marks target.variable ≡ b → AllByRecursion KeepsLeft (cond b (Draw (location_renumbered f target) stream choice ∷ []) [])
     tested true marked = ((takes-left g marks tables (parameters_of g) (parameters_of h) target kinds.Range (marked, (needs.0 marked).0) keep.0, source-keeps g marks tables (parameters_of g) (parameters_of h) stream choice keep.1), tt)
@@ -246,7 +240,7 @@ module _ (g : EventGraph) (marks live : List Bool) where
   pub edge-keeps : (e : EventEdge) → KeepsEdge g.variables tables (parameters_of g) e → EdgeNeeds g marks e → KeepsEdge h.variables tables (parameters_of h) (sliced_edge g marks e)
   edge-keeps e k needs = record {
     parameters = sliced_parameters marks (takes_of e);
-    target = takes-left_behind g marks g.vertices e.target (takes_of e) (k.target ∙ ap (λ ps. Some ps) (sym (takes-parameters g.vertices e.target k.parameters k.target)));
+    target = takes-left_at g marks g.vertices e.target (takes_of e) (k.target ∙ ap (λ ps. Some ps) (sym (takes-parameters g.vertices e.target k.parameters k.target)));
     carries = kind-carries e e.kind (edge-carries e k) needs.1;
     timing = timing-keeps e e.kind k.timing needs.1;
     condition = kind-of_left g marks e.condition kinds.Truth needs.0 k.condition;

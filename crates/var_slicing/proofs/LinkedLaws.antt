@@ -2,12 +2,13 @@
 use Rattle.std.proofs.Common.{◌≡◌, ◌⊎◌, inl, inr, ℕ, ◌<◌, ◌==◌, Bool, true, false, cond, List, [], ◌∷◌, ◌++◌, length, map, slice_index_or, refl, sym, ap, subst, arith, ◌∙◌, append-nil, append_assoc}
 use Rattle.std.specs.List.{range_with_len}
 use Rattle.std.proofs.lemmas.List.FromFn.{get_or-map-range_with_len, length-map-range_with_len}
+use Rattle.std.proofs.lemmas.Bool.{eqb-true}
 use Rattle.model_core.specs.Rules.LeastRelations.{over_pair}
 use Rattle.model_core.proofs.Among.{Among, contained-among, among-front, among-back, among-either}
 use Rattle.model_core.proofs.PlacesChanged.{same_number, same_on_range, place-mapped}
-use Rattle.mark_laws.proofs.EntailedMarks.{same-place, entailed-below, Implied}
+use Rattle.mark_laws.proofs.EntailedMarks.{entailed-below, Implied}
 use Rattle.mark_laws.specs.PlacePairs.{places_behind, pairs_from}
-use Rattle.var_slicing.specs.Inner.Linking.{no_lists, with_behind, lists_of_pairs}
+use Rattle.var_slicing.specs.Inner.Linking.{no_lists, with_successor, lists_of_pairs}
 use Rattle.mark_laws.proofs.PairsBehind.{behind-pairs, pairs-behind}
 
 -- the second places of the pairs that have this one as their first
@@ -15,15 +16,15 @@ abbrev pub seconds : ℕ → List (ℕ × ℕ) → List ℕ
 seconds j [] = []
 seconds j ((i, k) ∷ pairs) = cond (i == j) (k ∷ []) [] ++ seconds j pairs
 
-one_more : (b : Bool) (xs : List ℕ) (k : ℕ) → cond b (with_behind k xs) xs ≡ xs ++ cond b (k ∷ []) []
+one_more : (b : Bool) (xs : List ℕ) (k : ℕ) → cond b (with_successor k xs) xs ≡ xs ++ cond b (k ∷ []) []
 one_more true xs k = refl
 one_more false xs k = sym (append-nil xs)
 
 lists_of_pairs-mapped : (pairs : List (ℕ × ℕ)) (F : ℕ → List ℕ) (n : ℕ) → lists_of_pairs pairs (map F (range_with_len 0 n)) ≡ map (λ j. F j ++ seconds j pairs) (range_with_len 0 n)
 lists_of_pairs-mapped [] F n = same_on_range F (λ j. F j ++ []) 0 n (λ j from. sym (append-nil (F j)))
 lists_of_pairs-mapped ((i, k) ∷ pairs) F n =
-    let G : ℕ → List ℕ = λ j. cond (i == j) (with_behind k (F j)) (F j) in
-    ap (lists_of_pairs pairs) (place-mapped (with_behind k) F i i 0 n (omega arith)) ∙ lists_of_pairs-mapped pairs G n
+    let G : ℕ → List ℕ = λ j. cond (i == j) (with_successor k (F j)) (F j) in
+    ap (lists_of_pairs pairs) (place-mapped (with_successor k) F i i 0 n (omega arith)) ∙ lists_of_pairs-mapped pairs G n
     ∙ same_on_range (λ j. G j ++ seconds j pairs) (λ j. F j ++ seconds j ((i, k) ∷ pairs)) 0 n
     (λ j from. ap (λ xs. xs ++ seconds j pairs) (one_more (i == j) (F j) k) ∙ append_assoc (F j) (cond (i == j) (k ∷ []) []) (seconds j pairs))
 
@@ -40,7 +41,7 @@ second-pair ((i, n) ∷ pairs) j k among = by (i == j) refl (among-either (cond 
   by b is (inr later) rest = inr (rest later)
   by true is (inl here) rest = here_is (subst (λ (b : Bool). Among k (cond b (n ∷ []) [])) is here) where
     here_is : Among k (n ∷ []) → Among (j, k) ((i, n) ∷ pairs)
-    here_is (inl e) = inl (let first : i ≡ j = same-place i j is in let second : n ≡ k = e in cc)
+    here_is (inl e) = inl (let first : i ≡ j = eqb-true i j is in let second : n ≡ k = e in cc)
     here_is (inr none) = absurd none
   by false is (inl here) rest = absurd (subst (λ (b : Bool). Among k (cond b (n ∷ []) [])) is here)
 
@@ -56,8 +57,8 @@ module _ (pairs : List (ℕ × ℕ)) (n : ℕ) where
   abbrev lists : List (List ℕ)
   lists = lists_of_pairs pairs (no_lists n)
 
-  behind-seconds : (j : ℕ) → j < n → places_behind lists j ≡ seconds j pairs
-  behind-seconds j below =
+  successors-seconds : (j : ℕ) → j < n → places_behind lists j ≡ seconds j pairs
+  successors-seconds j below =
       ap (λ (next : List (List ℕ)). slice_index_or next j []) (lists_of_pairs-lists pairs n) ∙ get_or-map-range_with_len (λ j. seconds j pairs) 0 n j j [] below (omega arith)
 
   pub pairs-lists_of_pairs : (first : List ℕ) → Implied n first pairs (pairs_from 0 lists)
@@ -65,7 +66,7 @@ module _ (pairs : List (ℕ × ℕ)) (n : ℕ) where
     over = λ j k among below before.
         over_pair j k below before
         (contained-among (pairs_from 0 lists) (j, k) (behind-pairs lists 0 j j k (omega arith)
-        (subst (λ (ks : List ℕ). Among k ks) (sym (behind-seconds j (entailed-below n first (pairs_from 0 lists) before))) (pair-second pairs j k among))));
+        (subst (λ (ks : List ℕ). Among k ks) (sym (successors-seconds j (entailed-below n first (pairs_from 0 lists) before))) (pair-second pairs j k among))));
   }
 
   pub lists_of_pairs-pairs : (first : List ℕ) → Implied n first (pairs_from 0 lists) pairs
@@ -74,5 +75,5 @@ module _ (pairs : List (ℕ × ℕ)) (n : ℕ) where
         let (i, is, there) = pairs-behind lists 0 j k among in
         let same : i ≡ j = omega (arith, is) in
         over_pair j k below before
-        (contained-among pairs (j, k) (second-pair pairs j k (subst (λ (ks : List ℕ). Among k ks) (behind-seconds j (entailed-below n first pairs before)) (subst (λ (m : ℕ). Among k (places_behind lists m)) same there))));
+        (contained-among pairs (j, k) (second-pair pairs j k (subst (λ (ks : List ℕ). Among k ks) (successors-seconds j (entailed-below n first pairs before)) (subst (λ (m : ℕ). Among k (places_behind lists m)) same there))));
   }

@@ -3,7 +3,8 @@ use Rattle.std.proofs.Common.{◌≡◌, inl, inr, ℕ, ◌<◌, ◌≤◌, ◌=
 use Rattle.std.specs.Prelude.{◌||◌, filter, IfSome}
 use Rattle.std.specs.List.{AllByRecursion, flat_map, list_any, range_with_len}
 use Rattle.std.specs.Option.{option_map_or}
-use Rattle.std.proofs.lemmas.Bool.{and_from, false_from_ne_true}
+use Rattle.std.proofs.lemmas.Bool.{and_from, false_from_ne_true, eqb-true}
+use Rattle.sig_base.proofs.Lists.{slice_index_or-all}
 use Rattle.model_core.specs.EventGraph.{EventGraph, Expression, Number, Truth, Clock, Scalar, Cell, Negative, Not, Binary, If, Location, Choice, StateChange, Set, Draw, Delay, Fixed, Drawn, EdgeKind, Schedule, Urgent, CancelNext, CancelEqual, CancelAll, EventEdge, EventVertex, Variable, Watched, WatchedVariable, WatchedVertex, scalar_location, is_scheduling, watched_variables, delay_given}
 use Rattle.model_core.specs.Run.Step.{no_vertex, vertex_at}
 use Rattle.model_core.specs.Text.Spellable.{Extent, extent, SpellableExpression, SpellableLocation, SpellableChange, SpellableDelay, SpellableKind, SpellableEdge, SpellableVertex, SpellableWatched, IsSpellable}
@@ -12,15 +13,14 @@ use Rattle.model_core.specs.Rules.BoundsOfParts.{quiet_set, quiet_change}
 use Rattle.model_core.specs.Rules.MarkedPlaces.{is_marked, is_among}
 use Rattle.model_core.specs.Rules.Uses.{variables_in, index_reads, location_reads, delay_reads, edge_streams, delay_streams}
 use Rattle.model_core.specs.Rules.Needed.{all_changes, all_edges, carried_pairs, compares_values, compared_parameters, deciding_reads, faulting_target, faulting_writes, faulting_parameters, needed_by_edge, all_draws, drawn_from, needed_by_delays, needed_at_once, each_beside, needed_by_targets, needed_by_parameters, streams_drawn, needed_by_streams, needed_beside}
-use Rattle.model_core.proofs.Among.{Among, among-map, among-front, among-back, among-flat_map, of-among, each-among, either_true, first_true, second_true, any-among, among-any, among-filter}
+use Rattle.model_core.proofs.Among.{Among, among-map, among-front, among-back, among-flat_map, of-among, each-among, either_true, first_true, second_true, any-among, among-any, among-filter, among-of_flat_map}
 use Rattle.mark_laws.proofs.Marks.{Marked}
 use Rattle.mark_laws.proofs.MarksBelow.{tested-marked, marked-tested}
 use Rattle.model_core.proofs.PlacesChanged.{same_number}
 use Rattle.model_core.proofs.BothTrue.{and_first, and_second}
-use Rattle.mark_laws.proofs.EntailedMarks.{HoldEntailed, same-place, place-among}
+use Rattle.mark_laws.proofs.EntailedMarks.{HoldEntailed, place-among}
 use Rattle.model_core.proofs.EachOne.{every-joined}
-use Rattle.var_slicing.proofs.HeldByAll.{held-at}
-use Rattle.var_slicing.proofs.LeadingLaws.{among-of_flat_map, one_stream-streams}
+use Rattle.var_slicing.proofs.LeadingLaws.{one_stream-streams}
 use Rattle.var_slicing.proofs.ValuesLeft.{ReadsMarked, both_marks}
 use Rattle.var_slicing.proofs.ChangesLeft.{IndexReadsMarked}
 use Rattle.var_slicing.proofs.EdgesLeft.{DelayReadsMarked}
@@ -137,8 +137,8 @@ streams-few variables tables takes CancelAll k = tt
 
 -- a variable that is drawn from one of these streams is among those that are
 among-drawn_from : (streams : List ℕ) (draws : List (ℕ × ℕ)) (s v : ℕ) → is_among streams s ≡ true → Among (s, v) draws → Among v (drawn_from streams draws)
-among-drawn_from streams draws s v known there =
-    among-map (λ ((s, v) : ℕ × ℕ). v) (filter (λ (s, v). is_among streams s) draws) (s, v) (among-filter (λ ((s, v) : ℕ × ℕ). is_among streams s) draws (s, v) there known)
+among-drawn_from streams draws s v of_delay there =
+    among-map (λ ((s, v) : ℕ × ℕ). v) (filter (λ (s, v). is_among streams s) draws) (s, v) (among-filter (λ ((s, v) : ℕ × ℕ). is_among streams s) draws (s, v) there of_delay)
 
 location-below : (n : ℕ) (l : Location) → SpellableLocation n l → AllBelow n (location_reads l)
 location-below n l s = index l.index s.index where
@@ -236,7 +236,7 @@ module _ (g : EventGraph) (s : IsSpellable g) (keeps : KeepsParts g) (marks : Li
       elim (either_true (list_any (draws_marked marks stream) (all_draws g)) (is_among (delays_drawn g) stream) (marked-tested (is_live g marks) 64 stream lives)) [
         | inl h ↦
             let ((r, v), drawn_so, test) = any-among (draws_marked marks stream) (all_draws g) h in
-            let same = same-place r stream (and_first (r == stream) (is_marked marks v) test) in
+            let same = eqb-true r stream (and_first (r == stream) (is_marked marks v) test) in
             both_marks marks target.variable (drawn_too stream v target.variable (subst (λ (r : ℕ). Among (r, v) (all_draws g)) same drawn_so) drawn below (and_second (r == stream) (is_marked marks v) test)) unmarked
         | inr h ↦ both_marks marks target.variable (hold.begins target.variable (of-delays target.variable (among-drawn_from (delays_drawn g) (all_draws g) stream target.variable h drawn)) below) unmarked
       ])
@@ -261,7 +261,7 @@ module _ (g : EventGraph) (s : IsSpellable g) (keeps : KeepsParts g) (marks : Li
   vertices_written v there = of-among (SpellableVertex (extent g)) g.vertices v s.vertices there
 
   parameters-below : (k : ℕ) → AllBelow count (vertex_at g k).parameters
-  parameters-below k = held-at (λ (v : EventVertex). AllBelow count v.parameters) g.vertices no_vertex tt (each-among (λ (v : EventVertex). AllBelow count v.parameters) g.vertices (λ v there. (vertices_written v there).parameters)) k
+  parameters-below k = slice_index_or-all (λ (v : EventVertex). AllBelow count v.parameters) g.vertices no_vertex k (each-among (λ (v : EventVertex). AllBelow count v.parameters) g.vertices (λ v there. (vertices_written v there).parameters)) tt
 
   compared-marked : (e : EventEdge) → Among e (all_edges g) → e.kind ≡ CancelEqual → AllByRecursion (Marked marks) (vertex_at g e.target).parameters
   compared-marked e there is = begin-marked (vertex_at g e.target).parameters (parameters-below e.target) (λ w h.

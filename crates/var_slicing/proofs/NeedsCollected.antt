@@ -11,18 +11,18 @@ use Rattle.model_core.specs.Rules.Uses.{variables_in, location_reads, edge_strea
 use Rattle.model_core.specs.Rules.Entailed.{entailed_marks}
 use Rattle.model_core.specs.Rules.LeastRelations.{Entailed, from_first, over_pair}
 use Rattle.model_core.specs.Rules.Needed.{all_changes, all_edges, carried_pairs, each_beside, compared_parameters, deciding_reads, faulting_writes, faulting_parameters, needed_by_edge, needed_by_targets, needed_by_parameters, needed_by_delays, streams_drawn, all_draws, needed_at_once, needed_beside, needed_marks}
-use Rattle.model_core.proofs.Among.{Among, contained-among, among-front, among-back, among-either, among-flat_map}
+use Rattle.model_core.proofs.Among.{Among, contained-among, among-front, among-back, among-either, among-flat_map, among-of_flat_map}
 use Rattle.mark_laws.proofs.Marks.{Marked}
 use Rattle.mark_laws.proofs.EntailedMarks.{Implied, marks-implied, entailed_marks-entailed}
 use Rattle.mark_laws.specs.PlacePairs.{pairs_from}
 use Rattle.var_slicing.specs.Inner.Leading.{leaders_of, leader_pairs}
 use Rattle.var_slicing.specs.Inner.Linking.{no_lists, lists_of_pairs}
-use Rattle.var_slicing.specs.Inner.Needing.{Collected, nothing, added_each, needed_to_decide, with_streams, with_edge, with_edges, with_all_edges, collected_at_once, open_pairs, target_pairs, value_pairs, with_targets, with_change, with_changes, with_all_changes, edge_pairs, with_value_pairs, with_drawn, known_at_once, with_all_pairs, all_needs}
+use Rattle.var_slicing.specs.Inner.Needing.{Collected, nothing, added_each, needed_to_decide, with_streams, with_edge, with_edges, with_all_edges, collected_at_once, open_pairs, target_pairs, value_pairs, with_targets, with_change, with_changes, with_all_changes, edge_pairs, with_value_pairs, with_drawn, marked_at_once, with_all_pairs, all_needs}
 use Rattle.var_slicing.specs.Inner.Faulting.{faulting_unless}
 use Rattle.var_slicing.specs.Inner.MarkedTwice.{marked_over, marked_with_faults}
 use Rattle.var_slicing.proofs.AllWatched.{no_pair}
 use Rattle.var_slicing.proofs.LinkedLaws.{lists_of_pairs-length, pairs-lists_of_pairs, lists_of_pairs-pairs}
-use Rattle.var_slicing.proofs.LeadingLaws.{among-of_flat_map, through_leaders, streams-led, led-streams}
+use Rattle.var_slicing.proofs.LeadingLaws.{through_leaders, streams-led, led-streams}
 use Rattle.var_slicing.proofs.DelayStreams.{streams-both, drawn-once}
 use Rattle.var_slicing.proofs.LeavingOut.{LeavesOut, left-joined, left-each, left-filtered}
 use Rattle.var_slicing.proofs.ReadsBeside.{reads-added}
@@ -31,61 +31,61 @@ use Rattle.var_slicing.proofs.MarkedAgain.{Covered, entailed-covered, front-cove
 
 -- ---- pairs, one part after the other
 
-module _ (known : List Bool) where
+module _ (marks : List Bool) where
   abbrev open_by_targets : StateChange → List (ℕ × ℕ)
-  open_by_targets (Set targets rights) = flat_map (λ ((l, e) : Location × Expression). target_pairs known l e) (zip targets rights)
-  open_by_targets (Draw target stream choice) = open_pairs known (each_beside target.variable (location_reads target))
+  open_by_targets (Set targets rights) = flat_map (λ ((l, e) : Location × Expression). target_pairs marks l e) (zip targets rights)
+  open_by_targets (Draw target stream choice) = open_pairs marks (each_beside target.variable (location_reads target))
 
-  targets-added : (c : StateChange) (pairs : List (ℕ × ℕ)) → with_targets known c pairs ≡ pairs ++ open_by_targets c
+  targets-added : (c : StateChange) (pairs : List (ℕ × ℕ)) → with_targets marks c pairs ≡ pairs ++ open_by_targets c
   targets-added (Set targets rights) pairs = refl
-  targets-added (Draw target stream choice) pairs = reads-added known target.variable pairs (location_reads target)
+  targets-added (Draw target stream choice) pairs = reads-added marks target.variable pairs (location_reads target)
 
-  changes-append : (cs ds : List StateChange) (n : Collected) → with_changes known (cs ++ ds) n ≡ with_changes known ds (with_changes known cs n)
+  changes-append : (cs ds : List StateChange) (n : Collected) → with_changes marks (cs ++ ds) n ≡ with_changes marks ds (with_changes marks cs n)
   changes-append [] ds n = refl
-  changes-append (c ∷ cs) ds n = changes-append cs ds (with_change known c n)
+  changes-append (c ∷ cs) ds n = changes-append cs ds (with_change marks c n)
 
-  changes-of_all : (vs : List EventVertex) (n : Collected) → with_all_changes known vs n ≡ with_changes known (flat_map (λ (v : EventVertex). v.changes) vs) n
+  changes-of_all : (vs : List EventVertex) (n : Collected) → with_all_changes marks vs n ≡ with_changes marks (flat_map (λ (v : EventVertex). v.changes) vs) n
   changes-of_all [] n = refl
   changes-of_all (v ∷ vs) n =
-      changes-of_all vs (with_changes known v.changes n) ∙ sym (changes-append v.changes (flat_map (λ (v : EventVertex). v.changes) vs) n)
+      changes-of_all vs (with_changes marks v.changes n) ∙ sym (changes-append v.changes (flat_map (λ (v : EventVertex). v.changes) vs) n)
 
-  changes-added : (cs : List StateChange) (n : Collected) → with_changes known cs n ≡ record { first = n.first; pairs = n.pairs ++ flat_map open_by_targets cs; draws = n.draws ++ flat_map streams_drawn cs; delays = n.delays }
+  changes-added : (cs : List StateChange) (n : Collected) → with_changes marks cs n ≡ record { first = n.first; pairs = n.pairs ++ flat_map open_by_targets cs; draws = n.draws ++ flat_map streams_drawn cs; delays = n.delays }
   changes-added [] n = λ i. record { first = n.first; pairs = sym (append-nil n.pairs) i; draws = sym (append-nil n.draws) i; delays = n.delays }
   changes-added (c ∷ cs) n =
-      let paired : with_targets known c n.pairs ++ flat_map open_by_targets cs ≡ n.pairs ++ flat_map open_by_targets (c ∷ cs)
+      let paired : with_targets marks c n.pairs ++ flat_map open_by_targets cs ≡ n.pairs ++ flat_map open_by_targets (c ∷ cs)
       = ap (λ (ps : List (ℕ × ℕ)). ps ++ flat_map open_by_targets cs) (targets-added c n.pairs) ∙ append_assoc n.pairs (open_by_targets c) (flat_map open_by_targets cs) in
-      changes-added cs (with_change known c n)
+      changes-added cs (with_change marks c n)
       ∙ (λ i. record { first = n.first; pairs = paired i; draws = append_assoc n.draws (streams_drawn c) (flat_map streams_drawn cs) i; delays = n.delays })
 
-  carried-added : (g : EventGraph) (vs : List EventVertex) (pairs : List (ℕ × ℕ)) → with_value_pairs known g vs pairs ≡ pairs ++ flat_map (edge_pairs known g) (flat_map (λ (v : EventVertex). v.edges) vs)
+  carried-added : (g : EventGraph) (vs : List EventVertex) (pairs : List (ℕ × ℕ)) → with_value_pairs marks g vs pairs ≡ pairs ++ flat_map (edge_pairs marks g) (flat_map (λ (v : EventVertex). v.edges) vs)
   carried-added g [] pairs = sym (append-nil pairs)
   carried-added g (v ∷ vs) pairs =
       let later = flat_map (λ (v : EventVertex). v.edges) vs in
-      carried-added g vs (added_each (edge_pairs known g) v.edges pairs)
-      ∙ ap (λ (ps : List (ℕ × ℕ)). ps ++ flat_map (edge_pairs known g) later) (added-flat (edge_pairs known g) v.edges pairs)
-      ∙ append_assoc pairs (flat_map (edge_pairs known g) v.edges) (flat_map (edge_pairs known g) later)
-      ∙ ap (λ (ps : List (ℕ × ℕ)). pairs ++ ps) (sym (flat_map-append (edge_pairs known g) v.edges later))
+      carried-added g vs (added_each (edge_pairs marks g) v.edges pairs)
+      ∙ ap (λ (ps : List (ℕ × ℕ)). ps ++ flat_map (edge_pairs marks g) later) (added-flat (edge_pairs marks g) v.edges pairs)
+      ∙ append_assoc pairs (flat_map (edge_pairs marks g) v.edges) (flat_map (edge_pairs marks g) later)
+      ∙ ap (λ (ps : List (ℕ × ℕ)). pairs ++ ps) (sym (flat_map-append (edge_pairs marks g) v.edges later))
 
   -- ---- what is left out leads to what is marked
 
-  abbrev LeadsToKnown : ℕ × ℕ → Type 0
-  LeadsToKnown p = Marked known p.1
+  abbrev LeadsToMarked : ℕ × ℕ → Type 0
+  LeadsToMarked p = Marked marks p.1
 
   abbrev Leaves : List (ℕ × ℕ) → List (ℕ × ℕ) → Type 0
-  Leaves = LeavesOut LeadsToKnown
+  Leaves = LeavesOut LeadsToMarked
 
-  open-left : (pairs : List (ℕ × ℕ)) → Leaves pairs (open_pairs known pairs)
-  open-left pairs = left-filtered LeadsToKnown (λ ((v, w) : ℕ × ℕ). not (is_marked known w)) (λ p closed. not-false (is_marked known p.1) closed) pairs
+  open-left : (pairs : List (ℕ × ℕ)) → Leaves pairs (open_pairs marks pairs)
+  open-left pairs = left-filtered LeadsToMarked (λ ((v, w) : ℕ × ℕ). not (is_marked marks w)) (λ p closed. not-false (is_marked marks p.1) closed) pairs
 
   targets-left : (c : StateChange) → Leaves (needed_by_targets c) (open_by_targets c)
   targets-left (Set targets rights) =
-      left-each LeadsToKnown (λ ((l, e) : Location × Expression). each_beside l.variable (location_reads l ++ variables_in e)) (λ ((l, e) : Location × Expression). target_pairs known l e)
+      left-each LeadsToMarked (λ ((l, e) : Location × Expression). each_beside l.variable (location_reads l ++ variables_in e)) (λ ((l, e) : Location × Expression). target_pairs marks l e)
       (λ (p : Location × Expression). open-left (each_beside p.0.variable (location_reads p.0 ++ variables_in p.1))) (zip targets rights)
   targets-left (Draw target stream choice) = open-left (each_beside target.variable (location_reads target))
 
-  parameters-left : (g : EventGraph) (e : EventEdge) → Leaves (needed_by_parameters g e) (edge_pairs known g e)
+  parameters-left : (g : EventGraph) (e : EventEdge) → Leaves (needed_by_parameters g e) (edge_pairs marks g e)
   parameters-left g e =
-      left-each LeadsToKnown (λ ((v, x) : ℕ × Expression). each_beside v (variables_in x)) (λ ((v, x) : ℕ × Expression). value_pairs known v x)
+      left-each LeadsToMarked (λ ((v, x) : ℕ × Expression). each_beside v (variables_in x)) (λ ((v, x) : ℕ × Expression). value_pairs marks v x)
       (λ (p : ℕ × Expression). open-left (each_beside p.0 (variables_in p.1))) (carried_pairs g e)
 
 module _ (g : EventGraph) where
@@ -127,12 +127,12 @@ module _ (g : EventGraph) where
   at_once-all : collected_at_once g ≡ record { first = first_of_all; pairs = []; draws = []; delays = delays_once }
   at_once-all = edges-of_all g.vertices (record nothing { first = at_begin }) ∙ edges-added (all_edges g) (record nothing { first = at_begin })
 
-  abbrev known : List Bool
-  known = known_at_once g
+  abbrev marks : List Bool
+  marks = marked_at_once g
 
   -- the pairs of targets and parameters that don't lead to what is known
   abbrev still_open : List (ℕ × ℕ)
-  still_open = flat_map (open_by_targets known) (all_changes g) ++ flat_map (edge_pairs known g) (all_edges g)
+  still_open = flat_map (open_by_targets marks) (all_changes g) ++ flat_map (edge_pairs marks g) (all_edges g)
 
   -- all of them
   abbrev plain_pairs : List (ℕ × ℕ)
@@ -145,9 +145,9 @@ module _ (g : EventGraph) where
   all_needs-all =
       let begun : Collected = record { first = first_of_all; pairs = []; draws = []; delays = delays_once } in
       let paired : List (ℕ × ℕ) → Collected = λ ps. record { first = first_of_all; pairs = ps; draws = all_draws g; delays = delays_once } in
-      ap (λ (n : Collected). with_drawn (with_all_pairs known g n)) at_once-all
-      ∙ ap (λ (n : Collected). with_drawn (record n { pairs = with_value_pairs known g g.vertices n.pairs })) (changes-of_all known g.vertices begun ∙ changes-added known (all_changes g) begun)
-      ∙ ap (λ (ps : List (ℕ × ℕ)). with_drawn (paired ps)) (carried-added known g g.vertices (flat_map (open_by_targets known) (all_changes g)))
+      ap (λ (n : Collected). with_drawn (with_all_pairs marks g n)) at_once-all
+      ∙ ap (λ (n : Collected). with_drawn (record n { pairs = with_value_pairs marks g g.vertices n.pairs })) (changes-of_all marks g.vertices begun ∙ changes-added marks (all_changes g) begun)
+      ∙ ap (λ (ps : List (ℕ × ℕ)). with_drawn (paired ps)) (carried-added marks g g.vertices (flat_map (open_by_targets marks) (all_changes g)))
       ∙ (λ i. record { first = first_of_all ++ drawn-once (flat_map edge_streams (all_edges g)) (all_draws g) i; pairs = still_open; draws = all_draws g; delays = delays_once })
 
   -- ---- marks over the list of each variable
@@ -161,15 +161,15 @@ module _ (g : EventGraph) where
   abbrev HoldsFirst : List ℕ → Type 0
   HoldsFirst first = (k : ℕ) → Among k first_of_all → Among k first
 
-  pairs-left : LeavesOut (LeadsToKnown known) plain_pairs still_open
+  pairs-left : LeavesOut (LeadsToMarked marks) plain_pairs still_open
   pairs-left =
-      left-joined (LeadsToKnown known) (flat_map needed_by_targets (all_changes g)) (flat_map (open_by_targets known) (all_changes g)) (flat_map (needed_by_parameters g) (all_edges g)) (flat_map (edge_pairs known g) (all_edges g))
-      (left-each (LeadsToKnown known) needed_by_targets (open_by_targets known) (targets-left known) (all_changes g))
-      (left-each (LeadsToKnown known) (needed_by_parameters g) (edge_pairs known g) (parameters-left known g) (all_edges g))
+      left-joined (LeadsToMarked marks) (flat_map needed_by_targets (all_changes g)) (flat_map (open_by_targets marks) (all_changes g)) (flat_map (needed_by_parameters g) (all_edges g)) (flat_map (edge_pairs marks g) (all_edges g))
+      (left-each (LeadsToMarked marks) needed_by_targets (open_by_targets marks) (targets-left marks) (all_changes g))
+      (left-each (LeadsToMarked marks) (needed_by_parameters g) (edge_pairs marks g) (parameters-left marks g) (all_edges g))
 
   -- what is known is entailed over any pairs
-  known-entailed : (first : List ℕ) → HoldsFirst first → (pairs : List (ℕ × ℕ)) (k : ℕ) → Marked known k → Entailed count first pairs k
-  known-entailed first holds pairs k marked =
+  marked_at_once-entailed : (first : List ℕ) → HoldsFirst first → (pairs : List (ℕ × ℕ)) (k : ℕ) → Marked marks k → Entailed count first pairs k
+  marked_at_once-entailed first holds pairs k marked =
       no_pair count (collected_at_once g).first first pairs (λ k there. holds k (subst (λ (n : Collected). Among k n.first) at_once-all there)) (entailed_marks-entailed count (collected_at_once g).first [] k marked)
 
   plain-open : (first : List ℕ) → HoldsFirst first → Implied count first (plain_pairs ++ led) (still_open ++ led)
@@ -180,7 +180,7 @@ module _ (g : EventGraph) where
     by : (j k : ℕ) → k < count → Entailed count first (still_open ++ led) j → Among (j, k) plain_pairs ⊎ Among (j, k) led → Entailed count first (still_open ++ led) k
     by j k below before (inr h) = over j k below before (among-back still_open led (j, k) h)
     by j k below before (inl h) = elim (pairs-left.0 (j, k) h) [
-      | inl marked ↦ known-entailed first holds (still_open ++ led) k marked
+      | inl marked ↦ marked_at_once-entailed first holds (still_open ++ led) k marked
       | inr stays ↦ over j k below before (among-front still_open led (j, k) stays)
     ]
 

@@ -2,6 +2,7 @@
 use Rattle.std.proofs.Common.{◌≡◌, ℕ, zero, suc, slice_get, slice_index_or, Some, ◌≤◌, ◌^◌, ℤ, true, false, ◌&&◌, Bool, IsTrue, List, [], ◌∷◌, map, zip, length, Ok, refl, sym, ap, ◌∙◌, subst, arith}
 use Rattle.std.specs.List.{AllByRecursion, AllZip}
 use Rattle.std.specs.Option.{option_map_or}
+use Rattle.sig_base.proofs.Lists.{slice_index_or-all}
 use Rattle.model_core.specs.declared.model.Kind.{Kind}
 use Rattle.model_core.specs.EventGraph.{EventGraph, Expression, Location, StateChange, Set, Draw, EventVertex, EventEdge, EdgeKind, Schedule, Urgent, CancelNext, CancelEqual, CancelAll, scalar_location, delay_given}
 use Rattle.model_core.specs.Run.State.{State, Place, variable_at, in_range, with_cell}
@@ -17,7 +18,7 @@ use Rattle.mark_laws.proofs.Marks.{Marked}
 use Rattle.model_core.proofs.Results.{bind_ok}
 use Rattle.run_laws.proofs.InRange.{in_range-kept}
 use Rattle.model_core.proofs.EachOne.{every-map}
-use Rattle.var_slicing.proofs.HeldByAll.{held-both, held-at}
+use Rattle.var_slicing.proofs.HeldByAll.{held-both}
 use Rattle.var_slicing.proofs.ValuesLeft.{IsStored, ValuesFit}
 use Rattle.var_slicing.proofs.ChangesLeft.{TargetFits, ChangeFits}
 use Rattle.run_laws.proofs.PlaceVariables.{place-variable}
@@ -50,7 +51,7 @@ module _ (g : EventGraph) (quiet : QuietChanges g) (s : State) (inside : IsTrue 
       let (t, is_set, at_end) = bind_ok (set_all g clk (l ∷ []) (e ∷ []) s) _ f done in
       let (values, at_values, after_values) = bind_ok (each (value_of g s clk) (e ∷ [])) _ t is_set in
       let (places, at_places, stored) = bind_ok (each (place_of g s clk) (l ∷ [])) _ t after_values in
-      let (x, known, values_so) = bind_ok (value_of g s clk e) _ values at_values in
+      let (x, valued, values_so) = bind_ok (value_of g s clk e) _ values at_values in
       let (p, found, places_so) = bind_ok (place_of g s clk l) _ places at_places in
       let are : x ∷ [] ≡ values = cc in
       let they : p ∷ [] ≡ places = cc in
@@ -58,7 +59,7 @@ module _ (g : EventGraph) (quiet : QuietChanges g) (s : State) (inside : IsTrue 
       let (u, first, rest) = bind_ok (store g (p, x) s) _ t stores in
       let (y, keeps, is_stored) = bind_ok (kept (variable_at g p.variable) x) (λ y. Ok (with_cell s p y)) u first in
       record {
-        has_value = record { value = x; known = known; stored = y; keeps = subst (λ v. kept (variable_at g v) x ≡ Ok y) (place-variable g s clk l.variable l.index p found) keeps };
+        has_value = record { value = x; valued = valued; stored = y; keeps = subst (λ v. kept (variable_at g v) x ≡ Ok y) (place-variable g s clk l.variable l.index p found) keeps };
         place = p;
         found = found;
       }
@@ -126,7 +127,7 @@ module _ (g : EventGraph) (quiet : QuietChanges g) (keeps : KeepsParts g) (marks
   KeptParts v = AllByRecursion ChangeKeeps v.changes × AllByRecursion EdgeKeeps v.edges
 
   kept_parts : (k : ℕ) → KeptParts (vertex_at g k)
-  kept_parts k = held-at KeptParts g.vertices no_vertex (tt, tt) (every-map (KeepsVertex g.variables (length g.tables) (parameters_of g)) KeptParts (λ v rules. (rules.changes, rules.edges)) g.vertices keeps.vertices) k
+  kept_parts k = slice_index_or-all KeptParts g.vertices no_vertex k (every-map (KeepsVertex g.variables (length g.tables) (parameters_of g)) KeptParts (λ v rules. (rules.changes, rules.edges)) g.vertices keeps.vertices) (tt, tt)
 
   abbrev ChangesNeed : EventVertex → Type 0
   ChangesNeed v = AllByRecursion (ChangeNeeds g marks live) v.changes
@@ -140,10 +141,10 @@ module _ (g : EventGraph) (quiet : QuietChanges g) (keeps : KeepsParts g) (marks
   vertex-fits : (k : ℕ) → VertexFits g marks live Inside (vertex_at g k)
   vertex-fits k = record {
     changes = λ seed clk early. every-map (λ c. ChangeKeeps c × ChangeNeeds g marks live c) (λ c. (d : ChangeState) → Inside d.state → ChangeFits g marks live seed clk d c) (change-fits seed clk early) (vertex_at g k).changes
-        (held-both ChangeKeeps (ChangeNeeds g marks live) (vertex_at g k).changes (kept_parts k).0 (held-at ChangesNeed g.vertices no_vertex tt needs.changes k));
+        (held-both ChangeKeeps (ChangeNeeds g marks live) (vertex_at g k).changes (kept_parts k).0 (slice_index_or-all ChangesNeed g.vertices no_vertex k needs.changes tt));
     edges = λ s inside clk early. every-map (λ e. EdgeKeeps e × (EdgeNeeds g marks e × DelayLives live e)) (EdgeFits g marks live s clk) (edge-fits s inside clk early) (vertex_at g k).edges
         (held-both EdgeKeeps (λ e. EdgeNeeds g marks e × DelayLives live e) (vertex_at g k).edges (kept_parts k).1
-        (held-both (EdgeNeeds g marks) (DelayLives live) (vertex_at g k).edges (held-at EdgesNeed g.vertices no_vertex tt needs.edges k) (held-at DelaysLive g.vertices no_vertex tt needs.delays k)));
+        (held-both (EdgeNeeds g marks) (DelayLives live) (vertex_at g k).edges (slice_index_or-all EdgesNeed g.vertices no_vertex k needs.edges tt) (slice_index_or-all DelaysLive g.vertices no_vertex k needs.delays tt)));
   }
 
   pub unneeded_may_go : MayGo g marks live Inside

@@ -112,37 +112,37 @@ module _ (g : EventGraph) (keeps : KeepsParts g) (marks live : List Bool) (needs
   EdgeKeeps = KeepsEdge g.variables tables (parameters_of g)
 
   -- what is known of a vertex
-  record VertexKnown (v : EventVertex) : Type 0 where
+  record VertexFacts (v : EventVertex) : Type 0 where
     keeps_rules : KeepsOld v
     changes_need : AllByRecursion (ChangeNeeds g marks live) v.changes
     edges_need : AllByRecursion (EdgeNeeds g marks) v.edges
 
-  vertex_known : (v : EventVertex) → Among v g.vertices → VertexKnown v
-  vertex_known v there = record {
+  vertex_facts : (v : EventVertex) → Among v g.vertices → VertexFacts v
+  vertex_facts v there = record {
     keeps_rules = of-among KeepsOld g.vertices v keeps.vertices there;
     changes_need = of-among (λ (v : EventVertex). AllByRecursion (ChangeNeeds g marks live) v.changes) g.vertices v needs.changes there;
     edges_need = of-among (λ (v : EventVertex). AllByRecursion (EdgeNeeds g marks) v.edges) g.vertices v needs.edges there;
   }
 
-  vertices_known : AllByRecursion VertexKnown g.vertices
-  vertices_known = each-among VertexKnown g.vertices vertex_known
+  all_vertex_facts : AllByRecursion VertexFacts g.vertices
+  all_vertex_facts = each-among VertexFacts g.vertices vertex_facts
 
-  changes_known : (v : EventVertex) → VertexKnown v → AllByRecursion (λ c. ChangeKeeps c × ChangeNeeds g marks live c) v.changes
-  changes_known v k = held-both ChangeKeeps (ChangeNeeds g marks live) v.changes k.keeps_rules.changes k.changes_need
+  facts_of_changes : (v : EventVertex) → VertexFacts v → AllByRecursion (λ c. ChangeKeeps c × ChangeNeeds g marks live c) v.changes
+  facts_of_changes v k = held-both ChangeKeeps (ChangeNeeds g marks live) v.changes k.keeps_rules.changes k.changes_need
 
-  edges_known : (v : EventVertex) → VertexKnown v → AllByRecursion (λ e. EdgeKeeps e × EdgeNeeds g marks e) v.edges
-  edges_known v k = held-both EdgeKeeps (EdgeNeeds g marks) v.edges k.keeps_rules.edges k.edges_need
+  facts_of_edges : (v : EventVertex) → VertexFacts v → AllByRecursion (λ e. EdgeKeeps e × EdgeNeeds g marks e) v.edges
+  facts_of_edges v k = held-both EdgeKeeps (EdgeNeeds g marks) v.edges k.keeps_rules.edges k.edges_need
 
   -- ---- its text is no longer
 
-  vertex-lines : (v : EventVertex) → VertexKnown v → NoLonger (vertex_lines h (sliced_vertex g marks v)) (vertex_lines g v)
+  vertex-lines : (v : EventVertex) → VertexFacts v → NoLonger (vertex_lines h (sliced_vertex g marks v)) (vertex_lines g v)
   vertex-lines v k =
       no_longer-before (codes "}\n")
       (no_longer-both
       (no_longer-both
       (no_longer-before (codes " {\n") (no_longer-after (codes "vertex " ++ v.name) (record { at_most = some-in_parentheses (map (variable_name h) (sliced_parameters marks v.parameters)) (map (variable_name g) v.parameters) (parameter-names g marks v.parameters) })))
-      (no_longer-lines (λ c. ChangeKeeps c × ChangeNeeds g marks live c) (change_line g) (change_line h) (sliced_change marks) (change-line g marks live) v.changes (changes_known v k)))
-      (no_longer-mapped (λ e. EdgeKeeps e × EdgeNeeds g marks e) (edge_line g) (edge_line h) (sliced_edge g marks) (edge-line g marks live) v.edges (edges_known v k)))
+      (no_longer-lines (λ c. ChangeKeeps c × ChangeNeeds g marks live c) (change_line g) (change_line h) (sliced_change marks) (change-line g marks live) v.changes (facts_of_changes v k)))
+      (no_longer-mapped (λ e. EdgeKeeps e × EdgeNeeds g marks e) (edge_line g) (edge_line h) (sliced_edge g marks) (edge-line g marks live) v.edges (facts_of_edges v k)))
 
   watched-name : (w : Watched) → WatchedMarked marks w → watched_name h (sliced_watched marks w) ≡ watched_name g w
   watched-name (WatchedVariable v) marked = name-left g marks v marked
@@ -158,7 +158,7 @@ module _ (g : EventGraph) (keeps : KeepsParts g) (marks live : List Bool) (needs
       (no_longer-both
       (no_longer-before (flat_map table_line g.tables) (no_longer-both (heading-shorter h g (needed-left g marks) g.name) (record { at_most = some-lines variable_line (some-marked_of marks g.variables) })))
       (no_longer-same (watch_line h) (watch_line g) watch-line))
-      (no_longer-mapped VertexKnown (vertex_lines g) (vertex_lines h) (sliced_vertex g marks) vertex-lines g.vertices vertices_known))
+      (no_longer-mapped VertexFacts (vertex_lines g) (vertex_lines h) (sliced_vertex g marks) vertex-lines g.vertices all_vertex_facts))
 
   -- ---- it keeps the rules
 
@@ -173,17 +173,17 @@ module _ (g : EventGraph) (keeps : KeepsParts g) (marks live : List Bool) (needs
       (every-images (λ v. Marked marks v × ParameterOf v) ParameterLeft (rank marks) (λ v (marked, (kind, is)). (kind, variable-of_left g marks v false kind marked is)) _
       (held-both (Marked marks) ParameterOf _ (parameters-marked marks vs) (some-hold ParameterOf (some-items_where_marked marks vs vs) all)))
 
-  vertex-keeps : (v : EventVertex) → VertexKnown v → KeepsNew (sliced_vertex g marks v)
-  vertex-keeps v known =
-      let k = known.keeps_rules in
+  vertex-keeps : (v : EventVertex) → VertexFacts v → KeepsNew (sliced_vertex g marks v)
+  vertex-keeps v facts =
+      let k = facts.keeps_rules in
       record {
         name = k.name;
         parameters = parameters-keep v.parameters k.parameters;
         each_once = parameters-apart marks v.parameters k.each_once;
         few_parameters = le_trans (parameters-few marks v.parameters) k.few_parameters;
-        changes = held-flat (λ c. ChangeKeeps c × ChangeNeeds g marks live c) (KeepsChange h.variables tables (parameters_of h)) (sliced_change marks) (λ c both. change-keeps g marks live c both.0 both.1) v.changes (changes_known v known);
+        changes = held-flat (λ c. ChangeKeeps c × ChangeNeeds g marks live c) (KeepsChange h.variables tables (parameters_of h)) (sliced_change marks) (λ c both. change-keeps g marks live c both.0 both.1) v.changes (facts_of_changes v facts);
         few_changes = le_trans (flat-few (sliced_change marks) (change-few g marks live) v.changes) k.few_changes;
-        edges = every-images (λ e. EdgeKeeps e × EdgeNeeds g marks e) (KeepsEdge h.variables tables (parameters_of h)) (sliced_edge g marks) (λ e both. edge-keeps g marks live e both.0 both.1) v.edges (edges_known v known);
+        edges = every-images (λ e. EdgeKeeps e × EdgeNeeds g marks e) (KeepsEdge h.variables tables (parameters_of h)) (sliced_edge g marks) (λ e both. edge-keeps g marks live e both.0 both.1) v.edges (facts_of_edges v facts);
         few_edges = subst (λ n. n ≤ EDGES_MAX) (sym (length-map v.edges (sliced_edge g marks))) k.few_edges;
       }
 
@@ -203,8 +203,8 @@ module _ (g : EventGraph) (keeps : KeepsParts g) (marks live : List Bool) (needs
   watchable-left (WatchedVariable v) (marked, below) = rank-below_left g marks v marked below
   watchable-left (WatchedVertex v) (marked, below) = subst (λ n. v < n) (sym same_vertices) below
 
-  watch_known : AllByRecursion (λ w. WatchedMarked marks w × Watchable w) g.watch
-  watch_known = held-both (WatchedMarked marks) Watchable g.watch needs.watched keeps.watch
+  facts_of_watch : AllByRecursion (λ w. WatchedMarked marks w × Watchable w) g.watch
+  facts_of_watch = held-both (WatchedMarked marks) Watchable g.watch needs.watched keeps.watch
 
   names-apart : IsDistinct same_bytes (map (λ (v : Variable). v.name) h.variables ++ map (λ (t : WeightTable). t.name) g.tables ++ map (λ (v : EventVertex). v.name) h.vertices)
   names-apart =
@@ -221,9 +221,9 @@ module _ (g : EventGraph) (keeps : KeepsParts g) (marks live : List Bool) (needs
     few_variables = le_trans (some-few (some-marked_of marks g.variables)) keeps.few_variables;
     tables = keeps.tables;
     few_tables = keeps.few_tables;
-    watch = every-images (λ w. WatchedMarked marks w × Watchable w) (IsWatchable (length h.variables) (length h.vertices)) (sliced_watched marks) watchable-left g.watch watch_known;
-    watched_once = watched-apart (length g.variables) (length h.variables) marks g.watch (every-map (λ w. WatchedMarked marks w × Watchable w) (ItemLeft (length h.variables) marks) item-left g.watch watch_known) keeps.watched_once;
-    vertices = every-images VertexKnown KeepsNew (sliced_vertex g marks) vertex-keeps g.vertices vertices_known;
+    watch = every-images (λ w. WatchedMarked marks w × Watchable w) (IsWatchable (length h.variables) (length h.vertices)) (sliced_watched marks) watchable-left g.watch facts_of_watch;
+    watched_once = watched-apart (length g.variables) (length h.variables) marks g.watch (every-map (λ w. WatchedMarked marks w × Watchable w) (ItemLeft (length h.variables) marks) item-left g.watch facts_of_watch) keeps.watched_once;
+    vertices = every-images VertexFacts KeepsNew (sliced_vertex g marks) vertex-keeps g.vertices all_vertex_facts;
     few_vertices = subst (λ n. n ≤ VERTICES_MAX) (sym same_vertices) keeps.few_vertices;
   }
 
@@ -235,7 +235,7 @@ module _ (g : EventGraph) (keeps : KeepsParts g) (marks live : List Bool) (needs
   module _ (s : IsSpellable g) where
     vertex-made : (v : EventVertex) → Among v g.vertices → VertexFrom g (extent h) (sliced_vertex g marks v)
     vertex-made v there =
-        let known = vertex_known v there in
+        let facts = vertex_facts v there in
         let spelled = of-among (SpellableVertex (extent g)) g.vertices v s.vertices there in
         let is_vertex = contained-among g.vertices v there in
         record {
@@ -244,9 +244,9 @@ module _ (g : EventGraph) (keeps : KeepsParts g) (marks live : List Bool) (needs
           name = refl;
           parameters = parameters-below_left g marks v.parameters spelled.parameters;
           changes = held-flat (λ c. Among c v.changes) (ChangeFrom g (extent h)) (sliced_change marks) (λ c among.
-              change-made g marks live v is_vertex c (contained-among v.changes c among) (of-among (SpellableChange (extent g)) v.changes c spelled.changes among).parts (of-among ChangeKeeps v.changes c known.keeps_rules.changes among) (of-among (ChangeNeeds g marks live) v.changes c known.changes_need among)) v.changes (each-among (λ c. Among c v.changes) v.changes (λ c among. among));
+              change-made g marks live v is_vertex c (contained-among v.changes c among) (of-among (SpellableChange (extent g)) v.changes c spelled.changes among).parts (of-among ChangeKeeps v.changes c facts.keeps_rules.changes among) (of-among (ChangeNeeds g marks live) v.changes c facts.changes_need among)) v.changes (each-among (λ c. Among c v.changes) v.changes (λ c among. among));
           edges = every-images (λ e. Among e v.edges) (EdgeFrom g (extent h)) (sliced_edge g marks) (λ e among.
-              edge-made g marks live v is_vertex e (contained-among v.edges e among) (of-among (SpellableEdge (extent g)) v.edges e spelled.edges among) (of-among EdgeKeeps v.edges e known.keeps_rules.edges among) (of-among (EdgeNeeds g marks) v.edges e known.edges_need among)) v.edges (each-among (λ e. Among e v.edges) v.edges (λ e among. among));
+              edge-made g marks live v is_vertex e (contained-among v.edges e among) (of-among (SpellableEdge (extent g)) v.edges e spelled.edges among) (of-among EdgeKeeps v.edges e facts.keeps_rules.edges among) (of-among (EdgeNeeds g marks) v.edges e facts.edges_need among)) v.edges (each-among (λ e. Among e v.edges) v.edges (λ e among. among));
         }
 
     watched-written : (w : Watched) → WatchedMarked marks w × Watchable w → SpellableWatched (extent h) (sliced_watched marks w)
@@ -258,7 +258,7 @@ module _ (g : EventGraph) (keeps : KeepsParts g) (marks live : List Bool) (needs
       name = refl;
       variables = some-hold (Contains g.variables) (some-marked_of marks g.variables) (all-contained g.variables);
       tables = all-contained g.tables;
-      watch = every-images (λ w. WatchedMarked marks w × Watchable w) (SpellableWatched (extent h)) (sliced_watched marks) watched-written g.watch watch_known;
+      watch = every-images (λ w. WatchedMarked marks w × Watchable w) (SpellableWatched (extent h)) (sliced_watched marks) watched-written g.watch facts_of_watch;
       has_vertex = has_one-map (sliced_vertex g marks) g.vertices s.has_vertex;
       vertices = every-images (λ v. Among v g.vertices) (VertexFrom g (extent h)) (sliced_vertex g marks) vertex-made g.vertices (each-among (λ v. Among v g.vertices) g.vertices (λ v there. there));
     })

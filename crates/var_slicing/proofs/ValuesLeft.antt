@@ -75,7 +75,7 @@ marked-stored g marks (v ∷ vs) (x ∷ xs) (now, all) = ((λ unmarked. both_mar
 -- an expression has a value that can be stored in this variable
 pub record IsStored (g : EventGraph) (s : State) (clk v : ℕ) (e : Expression) : Type 0 where
   pub value : ℤ
-  pub known : value_of g s clk e ≡ Ok value
+  pub valued : value_of g s clk e ≡ Ok value
   pub stored : ℤ
   pub keeps : kept (variable_at g v) value ≡ Ok stored
 
@@ -119,7 +119,7 @@ module _ (g : EventGraph) (marks : List Bool) (s t : State) (left : StateLeft ma
         both_go (ap (λ b. cond b (x ∷ items_where_marked marks vs xs) (items_where_marked marks vs xs)) marked ∙ ap (λ ys. x ∷ ys) same, ((λ unmarked. both_marks marks v marked unmarked), stored)))))
     one false unmarked later =
         let now = quiet unmarked in
-        subst (λ (r : OrFault ℤ). Alongside (Values (v ∷ vs)) (r >>= λ x. each (value_of g s clk) es >>= λ xs. Ok (x ∷ xs)) (each (value_of h t clk) (sliced_values marks vs es))) (sym now.known)
+        subst (λ (r : OrFault ℤ). Alongside (Values (v ∷ vs)) (r >>= λ x. each (value_of g s clk) es >>= λ xs. Ok (x ∷ xs)) (each (value_of h t clk) (sliced_values marks vs es))) (sym now.valued)
         (bind-alongside-left (Values vs) (Values (v ∷ vs)) later _ (λ xs ys (same, stored).
         both_go (ap (λ b. cond b (now.value ∷ items_where_marked marks vs xs) (items_where_marked marks vs xs)) unmarked ∙ same, ((λ unmarked. (now.stored, now.keeps)), stored))))
 

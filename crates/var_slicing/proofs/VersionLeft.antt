@@ -27,7 +27,7 @@ parameters-few marks vs =
     let few = some-few (some-items_where_marked marks vs vs) in
     omega (arith, same, few)
 
-targets-few : (marks : List Bool) (ls : List Location) → length (sliced_targets marks ls) ≤ length ls
+pub targets-few : (marks : List Bool) (ls : List Location) → length (sliced_targets marks ls) ≤ length ls
 targets-few marks ls =
     let same = ap length (targets-kept marks ls) ∙ length-map _ (location_renumbered (rank marks)) in
     let few = some-few (some-items_where_marked marks (variables_of ls) ls) in

@@ -18,7 +18,7 @@ use std::mem;
 
 /// Gives a parameter its new number, and says whether it stays.
 fn renumber_param(staying: &Staying, param: &mut usize) -> bool
-    ensures stays { result ≡ is_marked staying.now param.old }
+    ensures marked { result ≡ is_marked staying.now param.old }
     ensures renumbered { param.new ≡ rank staying.now param.old }
 {
     let stays = staying.keeps(*param);
@@ -53,7 +53,7 @@ fn slice_values<V: HasVars>(staying: &Staying, beside: &V, values: &mut Vec<Expr
 
 /// Gives a target its new numbers, and says whether its variable stays.
 fn renumber_kept_target(staying: &Staying, target: &mut Target) -> bool
-    ensures stays { result ≡ is_marked staying.now target.old.var }
+    ensures marked { result ≡ is_marked staying.now target.old.var }
     ensures renumbered { location_of target.new
         ≡ location_renumbered (rank staying.now) (location_of target.old) }
 {

@@ -2,7 +2,7 @@
 
 ghost use Rattle.std.specs.Prelude.{◌≡◌, OnOk, IfOk};
 ghost use Rattle.model_core.specs.Rules.PlacedEdges.{with_place};
-ghost use Rattle.var_slicing.specs.Inner.Linking.{no_lists, with_behind, lists_of_pairs};
+ghost use Rattle.var_slicing.specs.Inner.Linking.{no_lists, with_successor, lists_of_pairs};
 
 use marked_walks::PlaceSuccessors;
 use sig_base::{List, NoMemory};
@@ -30,8 +30,8 @@ impl PlaceSuccessors for Links {
 
     fn nth_successor(&self, place: usize, nth: usize) -> Option<usize> {
         let places = self.lists.get(place)?;
-        let behind = places.as_slice().get(nth)?;
-        Some(*behind)
+        let successor = places.as_slice().get(nth)?;
+        Some(*successor)
     }
 }
 
@@ -47,11 +47,12 @@ fn no_lists(alloc: Global, count: usize) -> Result<Vec<List<usize>>, NoMemory>
 }
 
 /// Adds one more place to the list of a place, if there is such a place.
-fn link(next: &mut Vec<List<usize>>, place: usize, behind: usize) -> Result<(), NoMemory>
-    ensures { OnOk result (next.new.items ≡ with_place (with_behind behind) place next.old.items) }
+fn link(next: &mut Vec<List<usize>>, place: usize, successor: usize) -> Result<(), NoMemory>
+    ensures { OnOk result
+        (next.new.items ≡ with_place (with_successor successor) place next.old.items) }
 {
     match next.get_mut(place) {
-        Some(places) => places.push(behind),
+        Some(places) => places.push(successor),
         None => Ok(()),
     }
 }
@@ -66,8 +67,8 @@ pub(crate) fn lists_by_place(
 {
     let mut lists = no_lists(alloc, count)?;
     for pair in pairs {
-        let (place, behind) = *pair;
-        link(&mut lists, place, behind)?;
+        let (place, successor) = *pair;
+        link(&mut lists, place, successor)?;
     }
     Ok(Links { lists })
 }

@@ -30,8 +30,8 @@ fn all_needs(alloc: Global, model: &Model) -> Result<Needs, NoMemory>
     ensures { IfOk result (λ needs. collected_of needs ≡ all_needs (graph_of model.now)) }
 {
     let mut needs = Needs::at_once(alloc, model)?;
-    let known = marked(alloc, model.vars.len(), needs.first.as_slice())?;
-    needs.add_parts(model, known.as_slice())?;
+    let marks = marked(alloc, model.vars.len(), needs.first.as_slice())?;
+    needs.add_parts(model, marks.as_slice())?;
     Ok(needs)
 }
 

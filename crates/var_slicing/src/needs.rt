@@ -70,19 +70,19 @@ fn add_compared(out: &mut Vec<usize>, model: &Model, edge: &Edge) -> Result<(), 
 /// Adds what edges carry beside the parameters of their targets.
 fn add_carried(
     pairs: &mut Vec<(usize, usize)>,
-    known: &[bool],
+    marks: &[bool],
     model: &Model,
     edges: &[Edge],
 ) -> Result<(), NoMemory>
     ensures { OnOk result
         (pairs.new.items
-        ≡ added_each (edge_pairs known.now (graph_of model.now))
+        ≡ added_each (edge_pairs marks.now (graph_of model.now))
         (map edge_of edges.now) pairs.old.items) }
 {
     for edge in edges {
         add_values_beside(
             pairs,
-            known,
+            marks,
             model.parameters_at(edge.target),
             edge.values.as_slice(),
         )?;
@@ -93,17 +93,17 @@ fn add_carried(
 /// Adds what the edges of vertices carry beside the parameters of their targets.
 fn add_all_carried(
     pairs: &mut Vec<(usize, usize)>,
-    known: &[bool],
+    marks: &[bool],
     model: &Model,
     vertices: &[Vertex],
 ) -> Result<(), NoMemory>
     ensures { OnOk result
         (pairs.new.items
-        ≡ with_value_pairs known.now (graph_of model.now)
+        ≡ with_value_pairs marks.now (graph_of model.now)
         (map vertex_of vertices.now) pairs.old.items) }
 {
     for vertex in vertices {
-        add_carried(pairs, known, model, vertex.edges.as_slice())?;
+        add_carried(pairs, marks, model, vertex.edges.as_slice())?;
     }
     Ok(())
 }
@@ -169,15 +169,15 @@ impl Needs {
     }
 
     /// Adds what the targets of a change need, and from which stream it draws.
-    fn add_change(&mut self, known: &[bool], change: &Change) -> Result<(), NoMemory>
+    fn add_change(&mut self, marks: &[bool], change: &Change) -> Result<(), NoMemory>
         ensures { OnOk result
             (collected_of self.new
-            ≡ with_change known.now (change_of change.now) (collected_of self.old)) }
+            ≡ with_change marks.now (change_of change.now) (collected_of self.old)) }
     {
         match change {
             Change::Set { targets, values } => add_targets_beside(
                 &mut self.pairs,
-                known,
+                marks,
                 targets.as_slice(),
                 values.as_slice(),
             ),
@@ -186,7 +186,7 @@ impl Needs {
                 stream,
                 choice: _,
             } => {
-                add_index_beside(&mut self.pairs, known, target)?;
+                add_index_beside(&mut self.pairs, marks, target)?;
                 self.draws.push((usize::from(*stream), target.var))?;
                 Ok(())
             }
@@ -194,37 +194,37 @@ impl Needs {
     }
 
     /// Adds what the targets of changes need, and from which streams they draw.
-    fn add_changes(&mut self, known: &[bool], changes: &[Change]) -> Result<(), NoMemory>
+    fn add_changes(&mut self, marks: &[bool], changes: &[Change]) -> Result<(), NoMemory>
         ensures { OnOk result
             (collected_of self.new
-            ≡ with_changes known.now (map change_of changes.now) (collected_of self.old)) }
+            ≡ with_changes marks.now (map change_of changes.now) (collected_of self.old)) }
     {
         for change in changes {
-            self.add_change(known, change)?;
+            self.add_change(marks, change)?;
         }
         Ok(())
     }
 
     /// Adds what the targets of all changes of vertices need, and from which streams they draw.
-    fn add_all_changes(&mut self, known: &[bool], vertices: &[Vertex]) -> Result<(), NoMemory>
+    fn add_all_changes(&mut self, marks: &[bool], vertices: &[Vertex]) -> Result<(), NoMemory>
         ensures { OnOk result
             (collected_of self.new
-            ≡ with_all_changes known.now (map vertex_of vertices.now) (collected_of self.old)) }
+            ≡ with_all_changes marks.now (map vertex_of vertices.now) (collected_of self.old)) }
     {
         for vertex in vertices {
-            self.add_changes(known, vertex.changes.as_slice())?;
+            self.add_changes(marks, vertex.changes.as_slice())?;
         }
         Ok(())
     }
 
     /// Adds all pairs that lead to variables which aren't marked, and what is drawn from a stream of a delay.
-    pub(crate) fn add_parts(&mut self, model: &Model, known: &[bool]) -> Result<(), NoMemory>
+    pub(crate) fn add_parts(&mut self, model: &Model, marks: &[bool]) -> Result<(), NoMemory>
         ensures { OnOk result
             (collected_of self.new
-            ≡ with_drawn (with_all_pairs known.now (graph_of model.now) (collected_of self.old))) }
+            ≡ with_drawn (with_all_pairs marks.now (graph_of model.now) (collected_of self.old))) }
     {
-        self.add_all_changes(known, model.vertices.as_slice())?;
-        add_all_carried(&mut self.pairs, known, model, model.vertices.as_slice())?;
+        self.add_all_changes(marks, model.vertices.as_slice())?;
+        add_all_carried(&mut self.pairs, marks, model, model.vertices.as_slice())?;
         add_drawn_from(
             &mut self.first,
             self.delays.as_slice(),

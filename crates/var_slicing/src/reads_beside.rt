@@ -15,13 +15,13 @@ use sig_base::NoMemory;
 /// Adds a variable that is read beside the one for which it is.
 fn add_beside(
     pairs: &mut Vec<(usize, usize)>,
-    known: &[bool],
+    marks: &[bool],
     var: usize,
     read: usize,
 ) -> Result<(), NoMemory>
-    ensures { OnOk result (pairs.new.items ≡ with_read known.now var pairs.old.items read) }
+    ensures { OnOk result (pairs.new.items ≡ with_read marks.now var pairs.old.items read) }
 {
-    if !is_marked(known, read) {
+    if !is_marked(marks, read) {
         pairs.push((var, read))?;
     }
     Ok(())
@@ -30,30 +30,30 @@ fn add_beside(
 /// Adds what an expression reads beside a variable.
 fn add_reads_beside(
     pairs: &mut Vec<(usize, usize)>,
-    known: &[bool],
+    marks: &[bool],
     var: usize,
     expr: &Expr,
 ) -> Result<(), NoMemory>
     ensures { OnOk result
         (pairs.new.items
-        ≡ with_reads known.now var pairs.old.items (variables_in (expression_of expr.now))) }
+        ≡ with_reads marks.now var pairs.old.items (variables_in (expression_of expr.now))) }
 {
     match expr {
         Expr::Int(_) | Expr::Truth(_) | Expr::Clk => {}
-        Expr::Scalar(read) => add_beside(pairs, known, var, *read)?,
+        Expr::Scalar(read) => add_beside(pairs, marks, var, *read)?,
         Expr::Cell(read, index) => {
-            add_beside(pairs, known, var, *read)?;
-            add_reads_beside(pairs, known, var, index)?;
+            add_beside(pairs, marks, var, *read)?;
+            add_reads_beside(pairs, marks, var, index)?;
         }
-        Expr::Neg(a) | Expr::Not(a) => add_reads_beside(pairs, known, var, a)?,
+        Expr::Neg(a) | Expr::Not(a) => add_reads_beside(pairs, marks, var, a)?,
         Expr::Binary(_, left, right) => {
-            add_reads_beside(pairs, known, var, left)?;
-            add_reads_beside(pairs, known, var, right)?;
+            add_reads_beside(pairs, marks, var, left)?;
+            add_reads_beside(pairs, marks, var, right)?;
         }
         Expr::If(test, yes, no) => {
-            add_reads_beside(pairs, known, var, test)?;
-            add_reads_beside(pairs, known, var, yes)?;
-            add_reads_beside(pairs, known, var, no)?;
+            add_reads_beside(pairs, marks, var, test)?;
+            add_reads_beside(pairs, marks, var, yes)?;
+            add_reads_beside(pairs, marks, var, no)?;
         }
     }
     Ok(())
@@ -62,51 +62,51 @@ fn add_reads_beside(
 /// Adds what the index of a target reads beside its variable.
 pub(crate) fn add_index_beside(
     pairs: &mut Vec<(usize, usize)>,
-    known: &[bool],
+    marks: &[bool],
     target: &Target,
 ) -> Result<(), NoMemory>
     ensures { OnOk result
         (pairs.new.items
-        ≡ with_reads known.now target.now.var pairs.old.items
+        ≡ with_reads marks.now target.now.var pairs.old.items
         (location_reads (location_of target.now))) }
 {
     match &target.index {
         None => Ok(()),
-        Some(index) => add_reads_beside(pairs, known, target.var, index),
+        Some(index) => add_reads_beside(pairs, marks, target.var, index),
     }
 }
 
 /// Adds what the index and the right side of a target read beside its variable.
 fn add_target_beside(
     pairs: &mut Vec<(usize, usize)>,
-    known: &[bool],
+    marks: &[bool],
     target: &Target,
     value: &Expr,
 ) -> Result<(), NoMemory>
     ensures { OnOk result
         (pairs.new.items
         ≡ pairs.old.items
-        ++ target_pairs known.now (location_of target.now) (expression_of value.now)) }
+        ++ target_pairs marks.now (location_of target.now) (expression_of value.now)) }
 {
-    add_index_beside(pairs, known, target)?;
-    add_reads_beside(pairs, known, target.var, value)
+    add_index_beside(pairs, marks, target)?;
+    add_reads_beside(pairs, marks, target.var, value)
 }
 
 /// Adds what the indexes and right sides of targets read beside their variables.
 pub(crate) fn add_targets_beside(
     pairs: &mut Vec<(usize, usize)>,
-    known: &[bool],
+    marks: &[bool],
     targets: &[Target],
     values: &[Expr],
 ) -> Result<(), NoMemory>
     ensures { OnOk result
         (pairs.new.items
         ≡ pairs.old.items
-        ++ flat_map (λ ((l, e) : Location × Expression). target_pairs known.now l e)
+        ++ flat_map (λ ((l, e) : Location × Expression). target_pairs marks.now l e)
         (zip (map location_of targets.now) (map expression_of values.now))) }
 {
     for (target, value) in targets.iter().zip(values) {
-        add_target_beside(pairs, known, target, value)?;
+        add_target_beside(pairs, marks, target, value)?;
     }
     Ok(())
 }
@@ -114,18 +114,18 @@ pub(crate) fn add_targets_beside(
 /// Adds what the values that are carried for parameters read beside these.
 pub(crate) fn add_values_beside(
     pairs: &mut Vec<(usize, usize)>,
-    known: &[bool],
+    marks: &[bool],
     params: &[usize],
     values: &[Expr],
 ) -> Result<(), NoMemory>
     ensures { OnOk result
         (pairs.new.items
         ≡ pairs.old.items
-        ++ flat_map (λ ((v, x) : ℕ × Expression). value_pairs known.now v x)
+        ++ flat_map (λ ((v, x) : ℕ × Expression). value_pairs marks.now v x)
         (zip params.now (map expression_of values.now))) }
 {
     for (param, value) in params.iter().zip(values) {
-        add_reads_beside(pairs, known, *param, value)?;
+        add_reads_beside(pairs, marks, *param, value)?;
     }
     Ok(())
 }

@@ -59,44 +59,44 @@ collected_at_once g = with_all_edges g g.vertices (record nothing { first = watc
 -- ---- pairs, but for those whose second place is marked
 
 abbrev pub with_read : List Bool → ℕ → List (ℕ × ℕ) → ℕ → List (ℕ × ℕ)
-with_read known v pairs w = cond (is_marked known w) pairs (pairs ++ (v, w) ∷ [])
+with_read marks v pairs w = cond (is_marked marks w) pairs (pairs ++ (v, w) ∷ [])
 
 abbrev pub with_reads : List Bool → ℕ → List (ℕ × ℕ) → List ℕ → List (ℕ × ℕ)
-with_reads known v pairs [] = pairs
-with_reads known v pairs (w ∷ ws) = with_reads known v (with_read known v pairs w) ws
+with_reads marks v pairs [] = pairs
+with_reads marks v pairs (w ∷ ws) = with_reads marks v (with_read marks v pairs w) ws
 
 abbrev pub open_pairs : List Bool → List (ℕ × ℕ) → List (ℕ × ℕ)
-open_pairs known pairs = filter (λ (v, w). not (is_marked known w)) pairs
+open_pairs marks pairs = filter (λ (v, w). not (is_marked marks w)) pairs
 
 -- those of a target, and of a parameter
 abbrev pub target_pairs : List Bool → Location → Expression → List (ℕ × ℕ)
-target_pairs known l e = open_pairs known (each_beside l.variable (location_reads l ++ variables_in e))
+target_pairs marks l e = open_pairs marks (each_beside l.variable (location_reads l ++ variables_in e))
 
 abbrev pub value_pairs : List Bool → ℕ → Expression → List (ℕ × ℕ)
-value_pairs known v e = open_pairs known (each_beside v (variables_in e))
+value_pairs marks v e = open_pairs marks (each_beside v (variables_in e))
 
 abbrev pub with_targets : List Bool → StateChange → List (ℕ × ℕ) → List (ℕ × ℕ)
-with_targets known (Set targets rights) pairs = pairs ++ flat_map (λ (l, e). target_pairs known l e) (zip targets rights)
-with_targets known (Draw target stream choice) pairs = with_reads known target.variable pairs (location_reads target)
+with_targets marks (Set targets rights) pairs = pairs ++ flat_map (λ (l, e). target_pairs marks l e) (zip targets rights)
+with_targets marks (Draw target stream choice) pairs = with_reads marks target.variable pairs (location_reads target)
 
 abbrev pub with_change : List Bool → StateChange → Collected → Collected
-with_change known c n = record n { pairs = with_targets known c n.pairs; draws = n.draws ++ streams_drawn c }
+with_change marks c n = record n { pairs = with_targets marks c n.pairs; draws = n.draws ++ streams_drawn c }
 
 abbrev pub with_changes : List Bool → List StateChange → Collected → Collected
-with_changes known [] n = n
-with_changes known (c ∷ cs) n = with_changes known cs (with_change known c n)
+with_changes marks [] n = n
+with_changes marks (c ∷ cs) n = with_changes marks cs (with_change marks c n)
 
 abbrev pub with_all_changes : List Bool → List EventVertex → Collected → Collected
-with_all_changes known [] n = n
-with_all_changes known (v ∷ vs) n = with_all_changes known vs (with_changes known v.changes n)
+with_all_changes marks [] n = n
+with_all_changes marks (v ∷ vs) n = with_all_changes marks vs (with_changes marks v.changes n)
 
 -- those of what an edge carries
 abbrev pub edge_pairs : List Bool → EventGraph → EventEdge → List (ℕ × ℕ)
-edge_pairs known g e = flat_map (λ (v, x). value_pairs known v x) (carried_pairs g e)
+edge_pairs marks g e = flat_map (λ (v, x). value_pairs marks v x) (carried_pairs g e)
 
 abbrev pub with_value_pairs : List Bool → EventGraph → List EventVertex → List (ℕ × ℕ) → List (ℕ × ℕ)
-with_value_pairs known g [] pairs = pairs
-with_value_pairs known g (v ∷ vs) pairs = with_value_pairs known g vs (added_each (edge_pairs known g) v.edges pairs)
+with_value_pairs marks g [] pairs = pairs
+with_value_pairs marks g (v ∷ vs) pairs = with_value_pairs marks g vs (added_each (edge_pairs marks g) v.edges pairs)
 
 -- ---- a model
 
@@ -105,15 +105,15 @@ abbrev pub with_drawn : Collected → Collected
 with_drawn n = record n { first = n.first ++ drawn_from n.delays n.draws }
 
 -- what is needed at once is marked
-abbrev pub known_at_once : EventGraph → List Bool
-known_at_once g = entailed_marks (length g.variables) (collected_at_once g).first []
+abbrev pub marked_at_once : EventGraph → List Bool
+marked_at_once g = entailed_marks (length g.variables) (collected_at_once g).first []
 
 -- all pairs after what is needed at once
 abbrev pub with_all_pairs : List Bool → EventGraph → Collected → Collected
-with_all_pairs known g n =
-    let changed = with_all_changes known g.vertices n in
-    record changed { pairs = with_value_pairs known g g.vertices changed.pairs }
+with_all_pairs marks g n =
+    let changed = with_all_changes marks g.vertices n in
+    record changed { pairs = with_value_pairs marks g g.vertices changed.pairs }
 
 -- all that is collected from a graph
 abbrev pub all_needs : EventGraph → Collected
-all_needs g = with_drawn (with_all_pairs (known_at_once g) g (collected_at_once g))
+all_needs g = with_drawn (with_all_pairs (marked_at_once g) g (collected_at_once g))

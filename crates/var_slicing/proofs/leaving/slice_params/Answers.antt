@@ -9,7 +9,7 @@ use Rattle.var_slicing.proofs.leaving.slice_params.Goals as goal
 pub loop-place-preserved : goal.loop-place-preserved
 loop-place-preserved c =
     one_left c.loop-place.invariant c.index_mut.result.now _ c.renumber_param-stays.result c.loop-place-test.true c.len-place-end.ensures c.args.params.now.ok.0 c.index_mut.ensures.value
-    (parameters-at c.args.staying.now c.index_mut.result.now _ _ c.renumber_param-stays.ensures.stays c.renumber_param-stays.ensures.renumbered) c.keep-kept.ensures
+    (parameters-at c.args.staying.now c.index_mut.result.now _ _ c.renumber_param-stays.ensures.marked c.renumber_param-stays.ensures.renumbered) c.keep-kept.ensures
 
 pub returns : goal.returns
 returns c =

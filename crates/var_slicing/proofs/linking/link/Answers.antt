@@ -4,12 +4,12 @@ use Rattle.std.proofs.lemmas.List.{map-id}
 use Rattle.std.proofs.lemmas.Result.{on_ok_weaker}
 use Rattle.model_core.specs.Rules.PlacedEdges.{with_place}
 use Rattle.model_core.proofs.PlacesChanged.{map-set-with_place, with_place-beyond}
-use Rattle.var_slicing.specs.Inner.Linking.{with_behind}
+use Rattle.var_slicing.specs.Inner.Linking.{with_successor}
 use Rattle.var_slicing.proofs.linking.link.Goals as goal
 
 pub returns-in-Some : goal.returns-in-Some
 returns-in-Some c =
-    let f = with_behind c.args.behind in
+    let f = with_successor c.args.successor in
     let next = c.args.next.now.items in
     on_ok_weaker c.push.result
     (λ same. sym (map-id (set next c.args.place c.push.new.self))
@@ -19,7 +19,7 @@ returns-in-Some c =
 
 pub returns-in-None : goal.returns-in-None
 returns-in-None c =
-    let f = with_behind c.args.behind in
+    let f = with_successor c.args.successor in
     let next = c.args.next.now.items in
     sym (map-id next)
     ∙ with_place-beyond (λ (ks : List ℕ). ks) f next c.args.place (λ below. c.in-None.ensures.variant.1 (omega (arith, c.args.next.now.ok.0, below)))

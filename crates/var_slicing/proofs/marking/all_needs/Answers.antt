@@ -10,7 +10,7 @@ pub returns : goal.returns
 returns c =
     let g = graph_of c.args.model.now in
     c.in_ok-add_parts.ensures
-    ∙ ap₂ (λ (known : List Bool) (n : Collected). with_drawn (with_all_pairs known g n))
-    (c.as_slice-2.ensures.value ∙ c.in_ok-known.ensures
+    ∙ ap₂ (λ (marks : List Bool) (n : Collected). with_drawn (with_all_pairs marks g n))
+    (c.as_slice-2.ensures.value ∙ c.in_ok-marks.ensures
     ∙ ap₂ (λ (k : ℕ) (first : List ℕ). entailed_marks k first []) (c.len.ensures ∙ sym (length-map c.args.model.now.vars variable_of)) (c.as_slice.ensures.value ∙ ap (λ (n : Collected). n.first) c.in_ok-needs.ensures))
     c.in_ok-needs.ensures

@@ -8,7 +8,7 @@ use Rattle.var_slicing.proofs.needs.add_all_carried.Goals as goal
 
 pub loop-vertex-preserved : goal.loop-vertex-preserved
 loop-vertex-preserved c =
-    let known = c.args.known.now in
+    let marks = c.args.marks.now in
     let g = graph_of c.args.model.now in
-    let added = c.in_ok-add_carried.ensures ∙ ap (λ (edges : List Edge). added_each (edge_pairs known g) (map edge_of edges) c.loop-vertex.pairs.items) c.as_slice.ensures in
-    one_in_turn vertex_of (with_value_pairs known g) c.args.vertices.now c.loop-vertex.vertex-index _ _ _ c.loop-vertex-test.true c.vertex-item.is (λ later. ap (with_value_pairs known g later) added) c.loop-vertex.invariant
+    let added = c.in_ok-add_carried.ensures ∙ ap (λ (edges : List Edge). added_each (edge_pairs marks g) (map edge_of edges) c.loop-vertex.pairs.items) c.as_slice.ensures in
+    one_in_turn vertex_of (with_value_pairs marks g) c.args.vertices.now c.loop-vertex.vertex-index _ _ _ c.loop-vertex-test.true c.vertex-item.is (λ later. ap (with_value_pairs marks g later) added) c.loop-vertex.invariant

@@ -13,7 +13,7 @@ loop-param-init c = begun_beside (map-id _ ∙ (cc)) (ap (map expression_of) (cc
 pub loop-param-preserved : goal.loop-param-preserved
 loop-param-preserved c =
     one_beside c.loop-param.invariant c.in-Some.is c.next.ensures.steps
-    (c.in_ok-add_reads_beside.ensures ∙ reads-added c.args.known.now c.in-Some.param.now c.loop-param.pairs.items (variables_in (expression_of c.in-Some.value.now)))
+    (c.in_ok-add_reads_beside.ensures ∙ reads-added c.args.marks.now c.in-Some.param.now c.loop-param.pairs.items (variables_in (expression_of c.in-Some.value.now)))
 
 pub returns : goal.returns
 returns c = all_beside c.loop-param.invariant c.next.new.self c.in-None.is c.next.ensures.steps

@@ -7,4 +7,4 @@ use Rattle.var_slicing.proofs.reads_beside.add_values_beside.Given as goal
 
 abbrev pub invariant-loop-param : goal.invariant-loop-param
 invariant-loop-param l =
-    AddedBeside (λ ((v, e) : ℕ × Expression). value_pairs l.known v e) (λ v. v) expression_of l.params (map expression_of l.values) l.param-iterator l.initial.pairs.items l.pairs.items
+    AddedBeside (λ ((v, e) : ℕ × Expression). value_pairs l.marks v e) (λ v. v) expression_of l.params (map expression_of l.values) l.param-iterator l.initial.pairs.items l.pairs.items

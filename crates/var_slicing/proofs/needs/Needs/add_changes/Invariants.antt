@@ -4,4 +4,4 @@ use Rattle.var_slicing.specs.Inner.Needing.{collected_of, with_changes}
 use Rattle.var_slicing.proofs.needs.Needs.add_changes.Given as goal
 
 abbrev pub invariant-loop-change : goal.invariant-loop-change
-invariant-loop-change l = with_changes l.known (map change_of (drop l.change-index l.changes)) (collected_of l.self) ≡ with_changes l.known (map change_of l.changes) (collected_of l.initial.self)
+invariant-loop-change l = with_changes l.marks (map change_of (drop l.change-index l.changes)) (collected_of l.self) ≡ with_changes l.marks (map change_of l.changes) (collected_of l.initial.self)
