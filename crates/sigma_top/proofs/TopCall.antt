@@ -84,15 +84,15 @@ module _ {S K : Type 0} (source : S → Inlet) (sink : K → Outlet) (i j : S) (
   untouched : (reading : Reading) → p ≡ o → IsUntouched reading
   untouched reading same = in_any_case (text_of (limit_of reading) (source i).left) (λ text. (MayStopShort reading text → ⊥) → p ≡ o) (λ text never. same)
 
-  begun_unless : (reading : Reading) → (p ≡ o) ⊎ ((front : WritesFront source sink reading i o p) × MayStopShort reading front.answer.text) → IsUntouched reading
-  begun_unless reading (inl same) = untouched reading same
-  begun_unless reading (inr (front, short)) =
+  front_unless : (reading : Reading) → (p ≡ o) ⊎ ((front : WritesFront source sink reading i o p) × MayStopShort reading front.answer.text) → IsUntouched reading
+  front_unless reading (inl same) = untouched reading same
+  front_unless reading (inr (front, short)) =
       of_input_text (text_of (limit_of reading) (source i).left) front.answer.text (λ text. (MayStopShort reading text → ⊥) → p ≡ o) front.answer.of_input (λ never. absurd (never short))
 
-  pub kept_unless : (words : List (List ℕ)) (job : Job) → job_of words ≡ Some job → ((j ≡ i) × (p ≡ o)) ⊎ ForJob words (λ reading. LacksMemory source sink reading i j o p) → IsUntouched (reading_of job)
-  kept_unless words job asked (inl same) = untouched (reading_of job) same.1
-  kept_unless words job asked (inr lacks) =
-      begun_unless (reading_of job) (subst (λ (other : Job). LacksMemory source sink (reading_of other) i j o p) (same_Some _ _ (sym lacks.1 ∙ asked)) lacks.2).output_grown
+  pub untouched_unless : (words : List (List ℕ)) (job : Job) → job_of words ≡ Some job → ((j ≡ i) × (p ≡ o)) ⊎ ForJob words (λ reading. LacksMemory source sink reading i j o p) → IsUntouched (reading_of job)
+  untouched_unless words job asked (inl same) = untouched (reading_of job) same.1
+  untouched_unless words job asked (inr lacks) =
+      front_unless (reading_of job) (subst (λ (other : Job). LacksMemory source sink (reading_of other) i j o p) (same_Some _ _ (sym lacks.1 ∙ asked)) lacks.2).output_grown
 
 -- ---- what `resume` writes of what `save` wrote
 
@@ -142,64 +142,64 @@ module _ {S K : Type 0} (source : S → Inlet) (sink : K → Outlet) (words : Li
 
 module _ {S K E : Type 0} (source : S → Inlet) (sink : K → Outlet) (errors : E → Outlet) (words : List (List ℕ)) (i j : S) (o p : K) (e : E) where
   -- a job that wrote is reported by its status alone
-  gave : (end : End) → AnswersWords source sink words (Ok (said.Gave end)) i j o p → Ends source sink errors words i j o p e e (status_of_end end)
-  gave ends.Done h = (h, refl)
-  gave ends.ModelFault h = (h, refl)
-  gave ends.Budget h = (h, refl)
-  gave ends.Rejected h = (h, refl)
+  answer_reported : (end : End) → AnswersWords source sink words (Ok (said.Gave end)) i j o p → Ends source sink errors words i j o p e e (status_of_end end)
+  answer_reported ends.Done h = (h, refl)
+  answer_reported ends.ModelFault h = (h, refl)
+  answer_reported ends.Budget h = (h, refl)
+  answer_reported ends.Rejected h = (h, refl)
 
-  pub gave_ends : (end : End) (r : Result DeliveryOutcome Failure) (status : Status) → r ≡ Ok (said.Gave end) → status ≡ status_of_end end → AnswersWords source sink words r i j o p → Ends source sink errors words i j o p e e status
-  gave_ends end r status is of_status h =
-      subst (λ (s : Status). Ends source sink errors words i j o p e e s) (sym of_status) (gave end (subst (λ (x : Result DeliveryOutcome Failure). AnswersWords source sink words x i j o p) is h))
+  pub answer_ends : (end : End) (r : Result DeliveryOutcome Failure) (status : Status) → r ≡ Ok (said.Gave end) → status ≡ status_of_end end → AnswersWords source sink words r i j o p → Ends source sink errors words i j o p e e status
+  answer_ends end r status is of_status h =
+      subst (λ (s : Status). Ends source sink errors words i j o p e e s) (sym of_status) (answer_reported end (subst (λ (x : Result DeliveryOutcome Failure). AnswersWords source sink words x i j o p) is h))
 
   module _ (f : E) where
     -- a refusal is reported by its line
-    refused : (why : Refusal) (line : List ℕ) → AnswersWords source sink words (Ok (said.Refused why line)) i j o p → ReportsLine (errors e) (errors f) line → Ends source sink errors words i j o p e f (status_of_refusal why)
-    refused refusals.Refused line h reported = (line, h, reported)
-    refused refusals.BadStart line h reported = (line, h, reported)
-    refused refusals.Finished line h reported = (line, h, reported)
-    refused refusals.TooLarge line h reported = (line, h, reported)
+    refusal_reported : (why : Refusal) (line : List ℕ) → AnswersWords source sink words (Ok (said.Refused why line)) i j o p → ReportsLine (errors e) (errors f) line → Ends source sink errors words i j o p e f (status_of_refusal why)
+    refusal_reported refusals.Refused line h reported = (line, h, reported)
+    refusal_reported refusals.BadStart line h reported = (line, h, reported)
+    refusal_reported refusals.Finished line h reported = (line, h, reported)
+    refusal_reported refusals.TooLarge line h reported = (line, h, reported)
 
-    pub refused_ends : (why : Refusal) (line shown : List ℕ) (r : Result DeliveryOutcome Failure) (status : Status) → r ≡ Ok (said.Refused why line) → status ≡ status_of_refusal why → shown ≡ line → AnswersWords source sink words r i j o p → ReportsLine (errors e) (errors f) shown
+    pub refusal_ends : (why : Refusal) (line shown : List ℕ) (r : Result DeliveryOutcome Failure) (status : Status) → r ≡ Ok (said.Refused why line) → status ≡ status_of_refusal why → shown ≡ line → AnswersWords source sink words r i j o p → ReportsLine (errors e) (errors f) shown
         → Ends source sink errors words i j o p e f status
-    refused_ends why line shown r status is of_status same h reported =
+    refusal_ends why line shown r status is of_status same h reported =
         subst (λ (s : Status). Ends source sink errors words i j o p e f s) (sym of_status)
-        (refused why line (subst (λ (x : Result DeliveryOutcome Failure). AnswersWords source sink words x i j o p) is h) (subst (λ (l : List ℕ). ReportsLine (errors e) (errors f) l) same reported))
+        (refusal_reported why line (subst (λ (x : Result DeliveryOutcome Failure). AnswersWords source sink words x i j o p) is h) (subst (λ (l : List ℕ). ReportsLine (errors e) (errors f) l) same reported))
 
     -- a failure is reported by its line
-    failed : (failure : Failure) → AnswersWords source sink words (Err failure) i j o p → ReportsLine (errors e) (errors f) (failure_line failure) → Ends source sink errors words i j o p e f (status_of_failure failure)
-    failed failures.Usage h reported = (h.0, h.1, h.2, reported)
-    failed failures.ReadFault h reported = (h, reported)
-    failed failures.WriteFault h reported = (h, reported)
-    failed failures.NoMemory h reported = (h, reported)
+    failure_reported : (failure : Failure) → AnswersWords source sink words (Err failure) i j o p → ReportsLine (errors e) (errors f) (failure_line failure) → Ends source sink errors words i j o p e f (status_of_failure failure)
+    failure_reported failures.Usage h reported = (h.0, h.1, h.2, reported)
+    failure_reported failures.ReadFault h reported = (h, reported)
+    failure_reported failures.WriteFault h reported = (h, reported)
+    failure_reported failures.NoMemory h reported = (h, reported)
 
     pub failure_ends : (failure : Failure) (shown : List ℕ) (r : Result DeliveryOutcome Failure) (status : Status) → r ≡ Err failure → status ≡ status_of_failure failure → shown ≡ failure_line failure → AnswersWords source sink words r i j o p → ReportsLine (errors e) (errors f) shown
         → Ends source sink errors words i j o p e f status
     failure_ends failure shown r status is of_status same h reported =
         subst (λ (s : Status). Ends source sink errors words i j o p e f s) (sym of_status)
-        (failed failure (subst (λ (x : Result DeliveryOutcome Failure). AnswersWords source sink words x i j o p) is h) (subst (λ (l : List ℕ). ReportsLine (errors e) (errors f) l) same reported))
+        (failure_reported failure (subst (λ (x : Result DeliveryOutcome Failure). AnswersWords source sink words x i j o p) is h) (subst (λ (l : List ℕ). ReportsLine (errors e) (errors f) l) same reported))
 
     -- the bytes of the output grew by these
     abbrev Grows : List ℕ → Type 0
     Grows bytes = GrowsBy (sink o).written (sink p).written bytes
 
     -- what the job that the words ask for gave, the asked one gave
-    replied : (job : Job) → job_of words ≡ Some job → (a : Answer) → (other : Job) → job_of words ≡ Some other → RepliesToInput (reading_of other) (source i) a → RepliesToInput (reading_of job) (source i) a
-    replied job asked a other is answer = subst (λ (x : Job). RepliesToInput (reading_of x) (source i) a) (same_Some _ _ (sym is ∙ asked)) answer
+    reply_of_job : (job : Job) → job_of words ≡ Some job → (a : Answer) → (other : Job) → job_of words ≡ Some other → RepliesToInput (reading_of other) (source i) a → RepliesToInput (reading_of job) (source i) a
+    reply_of_job job asked a other is answer = subst (λ (x : Job). RepliesToInput (reading_of x) (source i) a) (same_Some _ _ (sym is ∙ asked)) answer
 
     -- what a job on a model gives is such for what the input had
     given_is_such : (job : Job) (of_model : ModelJob) → reading_of job ≡ readings.Model of_model → (IsSuch : List ℕ → List ℕ → Type 0) → GivesSuch of_model IsSuch
         → (status : Status) → Ends source sink errors words i j o p e f status → job_of words ≡ Some job → status ≡ statuses.Done → IfSome (source i).left (λ text. (out : List ℕ) × IsSuch text out × Grows out)
     given_is_such job of_model is IsSuch law status h asked is_done =
         let done = (subst (λ (s : Status). Ends source sink errors words i j o p e f s) is_done h).0 in
-        let answer = subst (λ (reading : Reading). RepliesToInput reading (source i) (Given ends.Done done.2.bytes)) is (replied job asked (Given ends.Done done.2.bytes) done.0 done.1 done.2.answer) in
+        let answer = subst (λ (reading : Reading). RepliesToInput reading (source i) (Given ends.Done done.2.bytes)) is (reply_of_job job asked (Given ends.Done done.2.bytes) done.0 done.1 done.2.answer) in
         of_input_text (source i).left answer.text (λ text. (out : List ℕ) × IsSuch text out × Grows out) answer.of_input (done.2.bytes, law answer.text done.2.bytes ends.Done answer.answers, done.2.output_grown)
 
     -- what `certify` finds sound means the same
     certified_means : SoundMeansTheSame → (status : Status) → Ends source sink errors words i j o p e f status → job_of words ≡ Some jobs.Certify → status ≡ statuses.Done → IfSome (source i).left Certifies
     certified_means law status h asked is_done =
         let done = (subst (λ (s : Status). Ends source sink errors words i j o p e f s) is_done h).0 in
-        let answer = replied jobs.Certify asked (Given ends.Done done.2.bytes) done.0 done.1 done.2.answer in
+        let answer = reply_of_job jobs.Certify asked (Given ends.Done done.2.bytes) done.0 done.1 done.2.answer in
         of_input_text (source i).left answer.text Certifies answer.of_input (law answer.text done.2.bytes answer.answers)
 
     -- what `save` writes is what `resume` goes on from
@@ -212,48 +212,48 @@ module _ {S K E : Type 0} (source : S → Inlet) (sink : K → Outlet) (errors :
 
     -- where memory lacks nothing is written, unless the job may stop short
     pub writes_nothing : (job : Job) → job_of words ≡ Some job → (status : Status) → Ends source sink errors words i j o p e f status → status ≡ statuses.NoMemory → IsUntouched source sink i j o p (reading_of job)
-    writes_nothing job asked status h is_short = kept_unless source sink i j o p words job asked (subst (λ (s : Status). Ends source sink errors words i j o p e f s) is_short h).0
+    writes_nothing job asked status h is_short = untouched_unless source sink i j o p words job asked (subst (λ (s : Status). Ends source sink errors words i j o p e f s) is_short h).0
 
     module _ (job : Job) (asked : job_of words ≡ Some job) where
-      given : (end : End) → ForJob words (λ reading. WritesAnswer source sink reading end i j o p) → IsComplete (reading_of job) (status_of_end end) (source i).left Grows
-      given end h =
-          let answer = replied job asked (Given end h.2.bytes) h.0 h.1 h.2.answer in
+      given_complete : (end : End) → ForJob words (λ reading. WritesAnswer source sink reading end i j o p) → IsComplete (reading_of job) (status_of_end end) (source i).left Grows
+      given_complete end h =
+          let answer = reply_of_job job asked (Given end h.2.bytes) h.0 h.1 h.2.answer in
           if_answers (reading_of job) (text_of (limit_of (reading_of job)) (source i).left) (λ a. status_of_end end ≡ status_of_answer a) (λ a. Grows (bytes_of_answer a)) answer.text (Given end h.2.bytes) answer.of_input answer.answers refl h.2.output_grown
 
-      refusal : (why : Refusal) (line : List ℕ) → ForJob words (λ reading. Refuses source sink reading why line i j o p) → IsComplete (reading_of job) (status_of_refusal why) (source i).left Grows
-      refusal why line h =
-          let answer = replied job asked (Refused why line) h.0 h.1 h.2.answer in
+      refusal_complete : (why : Refusal) (line : List ℕ) → ForJob words (λ reading. Refuses source sink reading why line i j o p) → IsComplete (reading_of job) (status_of_refusal why) (source i).left Grows
+      refusal_complete why line h =
+          let answer = reply_of_job job asked (Refused why line) h.0 h.1 h.2.answer in
           if_answers (reading_of job) (text_of (limit_of (reading_of job)) (source i).left) (λ a. status_of_refusal why ≡ status_of_answer a) (λ a. Grows (bytes_of_answer a)) answer.text (Refused why line) answer.of_input answer.answers refl (unwritten sink h.2.output_untouched)
 
       -- no status is left but that of the answer, and want of memory
       pub complete : (HasRisen (source i).faults (source j).faults → ⊥) → (HasRisen (sink o).faults (sink p).faults → ⊥) → (status : Status) → Ends source sink errors words i j o p e f status → (status ≡ statuses.NoMemory) ⊎ IsComplete (reading_of job) status (source i).left Grows
-      complete read wrote statuses.Done h = inr (given ends.Done h.0)
-      complete read wrote statuses.Refused h = inr (refusal refusals.Refused h.0 h.1)
+      complete read wrote statuses.Done h = inr (given_complete ends.Done h.0)
+      complete read wrote statuses.Refused h = inr (refusal_complete refusals.Refused h.0 h.1)
       complete read wrote statuses.Usage h = absurd (some_is_not_none _ _ h.0 asked)
       complete read wrote statuses.ReadFault h = absurd (read h.0.2.input_failed)
       complete read wrote statuses.WriteFault h = absurd (wrote h.0.2.output_failed)
       complete read wrote statuses.NoMemory h = inl refl
-      complete read wrote statuses.ModelFault h = inr (given ends.ModelFault h.0)
-      complete read wrote statuses.Budget h = inr (given ends.Budget h.0)
-      complete read wrote statuses.Rejected h = inr (given ends.Rejected h.0)
-      complete read wrote statuses.BadStart h = inr (refusal refusals.BadStart h.0 h.1)
-      complete read wrote statuses.Finished h = inr (refusal refusals.Finished h.0 h.1)
-      complete read wrote statuses.TooLarge h = inr (refusal refusals.TooLarge h.0 h.1)
+      complete read wrote statuses.ModelFault h = inr (given_complete ends.ModelFault h.0)
+      complete read wrote statuses.Budget h = inr (given_complete ends.Budget h.0)
+      complete read wrote statuses.Rejected h = inr (given_complete ends.Rejected h.0)
+      complete read wrote statuses.BadStart h = inr (refusal_complete refusals.BadStart h.0 h.1)
+      complete read wrote statuses.Finished h = inr (refusal_complete refusals.Finished h.0 h.1)
+      complete read wrote statuses.TooLarge h = inr (refusal_complete refusals.TooLarge h.0 h.1)
 
       -- where neither memory, the input nor the output failed, it is that of the answer
-      pub answered : (status : Status) → Ends source sink errors words i j o p e f status → (status ≡ statuses.ReadFault → ⊥) → (status ≡ statuses.WriteFault → ⊥) → (status ≡ statuses.NoMemory → ⊥) → IsComplete (reading_of job) status (source i).left Grows
-      answered statuses.Done h read wrote held = given ends.Done h.0
-      answered statuses.Refused h read wrote held = refusal refusals.Refused h.0 h.1
-      answered statuses.Usage h read wrote held = absurd (some_is_not_none _ _ h.0 asked)
-      answered statuses.ReadFault h read wrote held = absurd (read refl)
-      answered statuses.WriteFault h read wrote held = absurd (wrote refl)
-      answered statuses.NoMemory h read wrote held = absurd (held refl)
-      answered statuses.ModelFault h read wrote held = given ends.ModelFault h.0
-      answered statuses.Budget h read wrote held = given ends.Budget h.0
-      answered statuses.Rejected h read wrote held = given ends.Rejected h.0
-      answered statuses.BadStart h read wrote held = refusal refusals.BadStart h.0 h.1
-      answered statuses.Finished h read wrote held = refusal refusals.Finished h.0 h.1
-      answered statuses.TooLarge h read wrote held = refusal refusals.TooLarge h.0 h.1
+      pub complete_unless_failed : (status : Status) → Ends source sink errors words i j o p e f status → (status ≡ statuses.ReadFault → ⊥) → (status ≡ statuses.WriteFault → ⊥) → (status ≡ statuses.NoMemory → ⊥) → IsComplete (reading_of job) status (source i).left Grows
+      complete_unless_failed statuses.Done h read wrote held = given_complete ends.Done h.0
+      complete_unless_failed statuses.Refused h read wrote held = refusal_complete refusals.Refused h.0 h.1
+      complete_unless_failed statuses.Usage h read wrote held = absurd (some_is_not_none _ _ h.0 asked)
+      complete_unless_failed statuses.ReadFault h read wrote held = absurd (read refl)
+      complete_unless_failed statuses.WriteFault h read wrote held = absurd (wrote refl)
+      complete_unless_failed statuses.NoMemory h read wrote held = absurd (held refl)
+      complete_unless_failed statuses.ModelFault h read wrote held = given_complete ends.ModelFault h.0
+      complete_unless_failed statuses.Budget h read wrote held = given_complete ends.Budget h.0
+      complete_unless_failed statuses.Rejected h read wrote held = given_complete ends.Rejected h.0
+      complete_unless_failed statuses.BadStart h read wrote held = refusal_complete refusals.BadStart h.0 h.1
+      complete_unless_failed statuses.Finished h read wrote held = refusal_complete refusals.Finished h.0 h.1
+      complete_unless_failed statuses.TooLarge h read wrote held = refusal_complete refusals.TooLarge h.0 h.1
 
     -- a text that reads as a model is reduced, or memory is short
     pub reduces_what_reads : ReducesWhatReads → job_of words ≡ Some jobs.Reduce → (HasRisen (source i).faults (source j).faults → ⊥) → (HasRisen (sink o).faults (sink p).faults → ⊥) → (status : Status) → Ends source sink errors words i j o p e f status
@@ -271,7 +271,7 @@ module _ {S K E : Type 0} (source : S → Inlet) (sink : K → Outlet) (errors :
     goes_on : AnswersWhatReads → (options : ResumeOptions) → job_of words ≡ Some (jobs.Resume options.until options.events options.room) → (status : Status) → Ends source sink errors words i j o p e f status
         → (status ≡ statuses.ReadFault → ⊥) → (status ≡ statuses.WriteFault → ⊥) → (status ≡ statuses.NoMemory → ⊥) → IfSome (source i).left (WritesTheRest options.until options.events Grows)
     goes_on law options asked status h read wrote held =
-        rest_written law options status (source i).left (answered (jobs.Resume options.until options.events options.room) asked status h read wrote held)
+        rest_written law options status (source i).left (complete_unless_failed (jobs.Resume options.until options.events options.room) asked status h read wrote held)
 
     -- all promises, by the laws of what jobs write
     pub promises_kept : GivesSuch models.Reduce KeepsMeaning → GivesSuch models.Fuse (RewritesTheSame Fused) → GivesSuch models.Narrow (RewritesTheSame IsNarrowed)
