@@ -1,5 +1,6 @@
 -- How many bytes the lines of what each vertex does have stays right where one number is counted, and through a merge.
 use Rattle.std.proofs.Common.{◌≡◌, ℕ, zero, suc, ◌+◌, ◌-◌, ◌≤◌, ◌==◌, Bool, true, false, List, [], ◌∷◌, min, slice_index_or, Option, Some, None, refl, sym, ap, subst, arith}
+use Rattle.std.proofs.lemmas.Bool.{eqb-true}
 use Rattle.model_core.specs.EventGraph.{EventGraph}
 use Rattle.model_core.specs.Run.Step.{vertex_at}
 use Rattle.model_core.specs.Rules.PlacedEdges.{with_place}
@@ -10,8 +11,7 @@ use Rattle.merge_rules.specs.Hollowed.{hollow, hollowed, merged_leaving}
 use Rattle.merge_rules.specs.declared.taking_over.SecondVertex.{SecondVertex}
 use Rattle.merge_rules.specs.declared.taking_over.SecondVertex.TheVariants as seconds
 use Rattle.merge_rules.specs.FactsOfModel.{LengthIsRight, BodiesAreRight}
-use Rattle.merge_rules.specs.KnownLess.{bytes_left}
-use Rattle.mark_laws.proofs.EntailedMarks.{same-place}
+use Rattle.merge_rules.specs.FactsAfterEdge.{bytes_left}
 use Rattle.merge_rules.proofs.MergedText.ValidMerged.{name_stays}
 use Rattle.merge_rules.proofs.MergedText.MergedLength.{body_elsewhere}
 
@@ -22,18 +22,18 @@ are-alike g old new same are k = subst (λ (n : Option ℕ). LengthIsRight n (bo
 -- ---- one number changes
 
 put-there : (n : Option ℕ) (k : ℕ) (bodies : List (Option ℕ)) (lines : List ℕ) → LengthIsRight n lines → LengthIsRight (slice_index_or (with_place (λ m. n) k bodies) k None) lines
-put-there n k [] lines tells = tt
-put-there n zero (b ∷ bodies) lines tells = tells
-put-there n (suc k) (b ∷ bodies) lines tells = put-there n k bodies lines tells
+put-there n k [] lines right = tt
+put-there n zero (b ∷ bodies) lines right = right
+put-there n (suc k) (b ∷ bodies) lines right = put-there n k bodies lines right
 
 -- it is right of another graph, in which the other vertices have the lines that they had
 pub are-put : (g h : EventGraph) (place : ℕ) (n : Option ℕ) (bodies : List (Option ℕ)) → ((k : ℕ) → (k == place) ≡ false → body_lines h (vertex_at h k) ≡ body_lines g (vertex_at g k))
     → LengthIsRight n (body_lines h (vertex_at h place)) → BodiesAreRight g bodies → BodiesAreRight h (with_place (λ m. n) place bodies)
-are-put g h place n bodies same tells are k = by (k == place) refl where
+are-put g h place n bodies same right are k = by (k == place) refl where
   by : (c : Bool) → (k == place) ≡ c → LengthIsRight (slice_index_or (with_place (λ m. n) place bodies) k None) (body_lines h (vertex_at h k))
   by true is =
-      subst (λ j. LengthIsRight (slice_index_or (with_place (λ m. n) place bodies) j None) (body_lines h (vertex_at h j))) (sym (same-place k place is))
-      (put-there n place bodies (body_lines h (vertex_at h place)) tells)
+      subst (λ j. LengthIsRight (slice_index_or (with_place (λ m. n) place bodies) j None) (body_lines h (vertex_at h j))) (sym (eqb-true k place is))
+      (put-there n place bodies (body_lines h (vertex_at h place)) right)
   by false apart =
       subst (λ (m : Option ℕ). LengthIsRight m (body_lines h (vertex_at h k))) (sym (placed-elsewhere (λ m. n) place k bodies None apart))
       (subst (LengthIsRight (slice_index_or bodies k None)) (sym (same k apart)) (are k))

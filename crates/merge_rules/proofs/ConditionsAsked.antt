@@ -1,5 +1,5 @@
 -- The conditions of a merge as the code asks them, and the first pair that keeps them all.
 pub mod AllButOne
 pub mod CountedEdges
-pub mod StandAside
+pub mod OtherEdgesCalm
 pub mod PairsFound

@@ -22,7 +22,7 @@ use Rattle.merge_rules.proofs.OneStepForTwo.PlacedElement.{lengths_placed}
 use Rattle.merge_rules.proofs.OneStepForTwo.MergeHolds.{read_at}
 use Rattle.merge_rules.proofs.SingleUrgentModels.PlainEdges.{is_there}
 use Rattle.merge_rules.proofs.SingleUrgentModels.SingleKept.{apart_at, apart_placed}
-use Rattle.merge_rules.proofs.MergedText.MergedLength.{total, total_more, heading, lines_length, body_length, changed_behind, body_there, body_elsewhere}
+use Rattle.merge_rules.proofs.MergedText.MergedLength.{total, total_more, heading, lines_length, body_length, changed-later_lines, body_there, body_elsewhere}
 use Rattle.merge_rules.proofs.MergedText.VersionMerged.{needed-same, needed-pruned}
 
 -- ---- one vertex changed
@@ -38,10 +38,10 @@ edges-fewer g f k gone v name parameters changes there fewer =
     let new_body = body_length g (f x) in
     let heading_same = ap₂ (λ (n : List ℕ) (ps : List ℕ). length (heading g n ps)) (name x) (parameters x) in
     let changes_same = ap (total (change_line g)) (changes x) in
-    let behind = changed_behind g f name k v there in
+    let later_lines = changed-later_lines g f name k v there in
     let body = ap length (body_there g f name k (is_there g.vertices k v there)) in
     record {
-      text = omega (arith, behind, old_lines, new_lines, heading_same, changes_same, fewer);
+      text = omega (arith, later_lines, old_lines, new_lines, heading_same, changes_same, fewer);
       body = omega (arith, body, old_body, new_body, changes_same, fewer);
       others = body_elsewhere g f name k;
     }
@@ -74,20 +74,20 @@ undrawn-pruned g vertex edge e there undrawn =
 
 -- what is known of the version stays so where the edge doesn't draw its delay
 pub version-pruned : (g : EventGraph) (vertex edge : ℕ) (e : EventEdge) → edge_at g vertex edge ≡ Some e → (old new : Option Bool) → IfSome new (λ two. (old ≡ Some two) × (has_drawn_delay e ≡ false)) → VersionIsRight g old → VersionIsRight (pruned g vertex edge) new
-version-pruned g vertex edge e there old None is tells = tt
-version-pruned g vertex edge e there old (Some two) (was, undrawn) tells =
-    let told : two ≡ needs_version_two g = subst (VersionIsRight g) was tells in
-    told ∙ sym (undrawn-pruned g vertex edge e there undrawn)
+version-pruned g vertex edge e there old None is given = tt
+version-pruned g vertex edge e there old (Some two) (was, undrawn) given =
+    let right : two ≡ needs_version_two g = subst (VersionIsRight g) was given in
+    right ∙ sym (undrawn-pruned g vertex edge e there undrawn)
 
 -- urgent edges exclude each other without one of them as well
 module _ (test : Expression → Expression → Bool) where
   all-without : (t : Expression → Bool) (es : List EventEdge) (k : ℕ) → list_all t (urgent_conditions es) ≡ true → list_all t (urgent_conditions (remove es k)) ≡ true
   all-without t [] zero all = all
   all-without t [] (suc k) all = all
-  all-without t (e ∷ es) zero all = behind (is_urgent e) all where
-    behind : (b : Bool) → list_all t (map (λ (e : EventEdge). e.condition) (cond b (e ∷ filter is_urgent es) (filter is_urgent es))) ≡ true → list_all t (urgent_conditions es) ≡ true
-    behind true all = and_second (t e.condition) (list_all t (urgent_conditions es)) all
-    behind false all = all
+  all-without t (e ∷ es) zero all = later_lines (is_urgent e) all where
+    later_lines : (b : Bool) → list_all t (map (λ (e : EventEdge). e.condition) (cond b (e ∷ filter is_urgent es) (filter is_urgent es))) ≡ true → list_all t (urgent_conditions es) ≡ true
+    later_lines true all = and_second (t e.condition) (list_all t (urgent_conditions es)) all
+    later_lines false all = all
   all-without t (e ∷ es) (suc k) all = one (is_urgent e) all (all-without t es k) where
     one : (b : Bool) → list_all t (map (λ (e : EventEdge). e.condition) (cond b (e ∷ filter is_urgent es) (filter is_urgent es))) ≡ true
         → (list_all t (urgent_conditions es) ≡ true → list_all t (urgent_conditions (remove es k)) ≡ true)
@@ -98,10 +98,10 @@ module _ (test : Expression → Expression → Bool) where
   pairs-without : (es : List EventEdge) (k : ℕ) → each_pair test (urgent_conditions es) ≡ true → each_pair test (urgent_conditions (remove es k)) ≡ true
   pairs-without [] zero pairs = pairs
   pairs-without [] (suc k) pairs = pairs
-  pairs-without (e ∷ es) zero pairs = behind (is_urgent e) pairs where
-    behind : (b : Bool) → each_pair test (map (λ (e : EventEdge). e.condition) (cond b (e ∷ filter is_urgent es) (filter is_urgent es))) ≡ true → each_pair test (urgent_conditions es) ≡ true
-    behind true pairs = and_second (list_all (test e.condition) (urgent_conditions es)) (each_pair test (urgent_conditions es)) pairs
-    behind false pairs = pairs
+  pairs-without (e ∷ es) zero pairs = later_lines (is_urgent e) pairs where
+    later_lines : (b : Bool) → each_pair test (map (λ (e : EventEdge). e.condition) (cond b (e ∷ filter is_urgent es) (filter is_urgent es))) ≡ true → each_pair test (urgent_conditions es) ≡ true
+    later_lines true pairs = and_second (list_all (test e.condition) (urgent_conditions es)) (each_pair test (urgent_conditions es)) pairs
+    later_lines false pairs = pairs
   pairs-without (e ∷ es) (suc k) pairs = one (is_urgent e) pairs (pairs-without es k) where
     one : (b : Bool) → each_pair test (map (λ (e : EventEdge). e.condition) (cond b (e ∷ filter is_urgent es) (filter is_urgent es))) ≡ true
         → (each_pair test (urgent_conditions es) ≡ true → each_pair test (urgent_conditions (remove es k)) ≡ true)
@@ -143,8 +143,8 @@ needed-settled g vertex edge =
     needed-same (with_settled edge) false g vertex (λ v there e. inl (sym (same v) ∙ e)) (λ v there e. same v ∙ e) (λ no. cc)
 
 pub version-settled : (g : EventGraph) (vertex edge : ℕ) (two : Option Bool) → VersionIsRight g two → VersionIsRight (settled g vertex edge) two
-version-settled g vertex edge None tells = tt
-version-settled g vertex edge (Some two) tells = tells ∙ sym (needed-settled g vertex edge)
+version-settled g vertex edge None given = tt
+version-settled g vertex edge (Some two) given = given ∙ sym (needed-settled g vertex edge)
 
 -- where the urgent edges of its vertex exclude each other with the new condition
 pub settled_single : (g : EventGraph) (vertex edge : ℕ) → single_urgent g ≡ true → each_pair (exclusive g) (urgent_conditions (with_place with_true_condition edge (vertex_at g vertex).edges)) ≡ true → single_urgent (settled g vertex edge) ≡ true
@@ -154,14 +154,14 @@ settled_single g vertex edge single here = apart_placed g (with_settled edge) ve
 
 -- of numbers that are known to the last byte, what is left
 pub lines-left : (g h : EventGraph) (vertex bytes gone : ℕ) (old new : Option ℕ) → HasFewerBytes g h vertex bytes → gone ≡ capped bytes → IfSome new (λ left. (old ≡ Some (left + gone)) × (left + gone < 2 ^ 64 - 1)) → LinesAreRight g old → LinesAreRight h new
-lines-left g h vertex bytes gone old None loses is taken tells = tt
-lines-left g h vertex bytes gone old (Some left) loses is (whole, short) tells =
-    let told : length (version_line (needs_version_two g)) + (left + gone) ≡ length (canonical g) = subst (LinesAreRight g) whole tells in
-    omega (arith, told, loses.text, is, short)
+lines-left g h vertex bytes gone old None loses is taken given = tt
+lines-left g h vertex bytes gone old (Some left) loses is (whole, short) given =
+    let right : length (version_line (needs_version_two g)) + (left + gone) ≡ length (canonical g) = subst (LinesAreRight g) whole given in
+    omega (arith, right, loses.text, is, short)
 
 pub body-left : (g h : EventGraph) (vertex bytes gone : ℕ) (old new : Option ℕ) → HasFewerBytes g h vertex bytes → gone ≡ capped bytes → IfSome new (λ left. (old ≡ Some (left + gone)) × (left + gone < 2 ^ 64 - 1))
     → LengthIsRight old (body_lines g (vertex_at g vertex)) → LengthIsRight new (body_lines h (vertex_at h vertex))
-body-left g h vertex bytes gone old None loses is taken tells = tt
-body-left g h vertex bytes gone old (Some left) loses is (whole, short) tells =
-    let told : left + gone ≡ capped (length (body_lines g (vertex_at g vertex))) = subst (λ (n : Option ℕ). LengthIsRight n (body_lines g (vertex_at g vertex))) whole tells in
-    omega (arith, told, loses.body, is, short)
+body-left g h vertex bytes gone old None loses is taken given = tt
+body-left g h vertex bytes gone old (Some left) loses is (whole, short) given =
+    let right : left + gone ≡ capped (length (body_lines g (vertex_at g vertex))) = subst (λ (n : Option ℕ). LengthIsRight n (body_lines g (vertex_at g vertex))) whole given in
+    omega (arith, right, loses.body, is, short)

@@ -20,14 +20,14 @@ use Rattle.merge_rules.specs.Growth.{body_lines, bytes_leaving}
 use Rattle.merge_rules.specs.Hollowed.{hollow, hollowed, second_after_merge, merged_leaving}
 use Rattle.merge_rules.specs.declared.taking_over.SecondVertex.{SecondVertex}
 use Rattle.merge_rules.specs.declared.taking_over.SecondVertex.TheVariants as seconds
-use Rattle.merge_rules.proofs.OneStepForTwo.MergeHolds.{Mergeable, conditions_hold, is_below}
+use Rattle.merge_rules.proofs.OneStepForTwo.MergeHolds.{conditions_hold, first_there, is_below}
 use Rattle.merge_rules.proofs.SingleUrgentModels.SingleKept.{apart_placed, merged_single}
 use Rattle.merge_rules.proofs.ConditionsAsked.PairsFound.{counted_whole}
 use Rattle.mark_laws.proofs.MarksBelow.{same_mark}
 use Rattle.merge_rules.proofs.MergedText.VersionMerged.{gained, joined-late, at_place, needed-merged}
 use Rattle.merge_rules.proofs.MergedText.MergedLength.{lines_length, changed_length, body_elsewhere}
 use Rattle.merge_rules.proofs.MergedText.GrownTexts.{there-is}
-use Rattle.merge_rules.proofs.MergedText.LimitsTold.{with_merged}
+use Rattle.merge_rules.proofs.MergedText.LimitsTested.{with_merged}
 use Rattle.merge_rules.proofs.MergedText.ValidMerged.{name_stays}
 
 -- the two are two
@@ -92,27 +92,19 @@ module _ (g : EventGraph) (first second : ℕ) (none : first_failed (merge_condi
   abbrev b : EventVertex
   b = vertex_at g second
 
-  m : Mergeable g first second
-  m = conditions_hold g first second none
-
-  apart : (first == second) ≡ false
-  apart = two_apart g first second none
-
-  first_there : first < length g.vertices
-  first_there = is_below first (length g.vertices) m.exists
-
   pub second_there : second < length h.vertices
-  second_there = let below = is_below second (length g.vertices) m.target_exists in omega (arith, below, length_placed (merged_with b) first g.vertices)
+  second_there = let below = is_below second (length g.vertices) (conditions_hold g first second none).target_exists in omega (arith, below, length_placed (merged_with b) first g.vertices)
 
   pub second_stays : vertex_at h second ≡ b
-  second_stays = placed-elsewhere (merged_with b) first second g.vertices no_vertex (apart-turned first second apart)
+  second_stays = placed-elsewhere (merged_with b) first second g.vertices no_vertex (apart-turned first second (two_apart g first second none))
 
   -- the first needs what the second did
   first-late : has_later_parts b ≡ true → list_any has_later_parts (with_place hollow second h.vertices) ≡ true
   first-late late =
+      let p = (conditions_hold g first second none).edge in
       at_place (with_place hollow second h.vertices) first
-      (ap has_later_parts (placed-elsewhere hollow second first h.vertices no_vertex apart ∙ placed-there (merged_with b) first g.vertices no_vertex first_there ∙ with_merged b (vertex_at g first) m.edge.place m.edge.is)
-      ∙ joined-late b (vertex_at g first) (values_at_once (vertex_at g first)) m.edge.place m.edge.is
+      (ap has_later_parts (placed-elsewhere hollow second first h.vertices no_vertex (two_apart g first second none) ∙ placed-there (merged_with b) first g.vertices no_vertex (first_there g first second none) ∙ with_merged b (vertex_at g first) p.place p.is)
+      ∙ joined-late b (vertex_at g first) (values_at_once (vertex_at g first)) p.place p.is
       ∙ second_true (has_later_parts (vertex_at g first)) (has_later_parts b) late)
 
   needed-stays : needs_version_two (hollowed h second) ≡ needs_version_two h
@@ -127,7 +119,7 @@ module _ (g : EventGraph) (first second : ℕ) (none : first_failed (merge_condi
   -- ---- its length
 
   second_body : body_lines h (vertex_at h second) ≡ body_lines g b
-  second_body = body_elsewhere g (merged_with b) (name_stays b) first second (apart-turned first second apart)
+  second_body = body_elsewhere g (merged_with b) (name_stays b) first second (apart-turned first second (two_apart g first second none))
 
   -- the lines of what it did are gone
   body-gone : length (canonical (hollowed h second)) + length (body_lines h (vertex_at h second)) ≡ length (canonical h)

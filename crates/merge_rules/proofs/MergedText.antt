@@ -3,4 +3,4 @@ pub mod ValidMerged
 pub mod VersionMerged
 pub mod MergedLength
 pub mod GrownTexts
-pub mod LimitsTold
+pub mod LimitsTested

@@ -8,7 +8,7 @@ use Rattle.model_core.specs.Text.Canonical.{version_line, canonical}
 use Rattle.model_core.specs.Text.VersionNeeded.{needs_version_two}
 use Rattle.model_core.specs.Rules.UrgentEdges.{single_urgent}
 use Rattle.merge_rules.specs.Growth.{body_lines, capped}
-use Rattle.merge_rules.specs.declared.known.FactsOfModel.{FactsOfModel}
+use Rattle.merge_rules.specs.declared.facts.FactsOfModel.{FactsOfModel}
 
 -- the number of bytes, where there is one, is that of the graph's canonical text
 abbrev pub TextLengthIsRight : EventGraph → Option ℕ → Type 0
@@ -40,12 +40,12 @@ abbrev pub BodiesAreRight : EventGraph → List (Option ℕ) → Type 0
 BodiesAreRight g bodies = (k : ℕ) → LengthIsRight (slice_index_or bodies k None) (body_lines g (vertex_at g k))
 
 -- what is known is so
-pub record FactsAreRight (g : EventGraph) (known : FactsOfModel) : Type 0 where
-  pub lines : LinesAreRight g known.lines
-  pub version : VersionIsRight g known.version_two
-  pub single : SingleIsRight g known.single
-  pub bodies : BodiesAreRight g known.bodies
+pub record FactsAreRight (g : EventGraph) (facts : FactsOfModel) : Type 0 where
+  pub lines : LinesAreRight g facts.lines
+  pub version : VersionIsRight g facts.version_two
+  pub single : SingleIsRight g facts.single
+  pub bodies : BodiesAreRight g facts.bodies
 
 -- how many bytes the canonical text has, where both are known
 abbrev pub text_length : FactsOfModel → Option ℕ
-text_length known = option_and_then (λ two. option_map (λ bytes. length (version_line two) + bytes) known.lines) known.version_two
+text_length facts = option_and_then (λ two. option_map (λ bytes. length (version_line two) + bytes) facts.lines) facts.version_two

@@ -1,9 +1,9 @@
 pub mod KeptPairs
 pub mod Inner
-pub mod PairStanding
+pub mod PairFits
 pub mod Growth
 pub mod Hollowed
 pub mod FactsOfModel
-pub mod KnownLess
+pub mod FactsAfterEdge
 pub mod NothingCounted
 pub mod UrgentVertices

@@ -12,7 +12,7 @@ ghost use Rattle.model_core.specs.Rules.Uses.{vertex_writes};
 ghost use Rattle.model_core.specs.Rules.UrgentEdges.{plain_urgent_edge, single_urgent};
 ghost use Rattle.model_core.specs.Rules.Merge.{set_parameters, leads_to, is_watched_vertex, reads_none_of, is_unwatched, happens_unseen, values_at_once, other_edges, merge_conditions};
 ghost use Rattle.model_core.specs.Code.Views.{graph_of, expression_of, change_of, edge_of, vertex_of, watched_of};
-ghost use Rattle.merge_rules.specs.PairStanding.{acts_unseen};
+ghost use Rattle.merge_rules.specs.PairFits.{acts_unseen};
 ghost use Rattle.merge_rules.specs.KeptPairs.{UnseenIsRight};
 ghost use Rattle.merge_rules.specs.Inner.ReadingEdges.{is_calm};
 
@@ -188,7 +188,7 @@ fn second_happens_unseen(
 
 /// Whether the edges of the first vertex but its plain urgent one never fault, read nothing that the second writes, and draw
 /// no delay.
-fn others_stand_aside<R: ReadsWritten>(
+fn other_edges_are_calm<R: ReadsWritten>(
     model: &Model,
     readers: &mut R,
     first: &Vertex,
@@ -205,10 +205,10 @@ fn others_stand_aside<R: ReadsWritten>(
     if !all_calm(model, others.before) {
         return false;
     }
-    if !all_calm(model, others.behind) {
+    if !all_calm(model, others.after) {
         return false;
     }
-    !readers.reads_written(model, others.before, others.behind, second)
+    !readers.reads_written(model, others.before, others.after, second)
 }
 
 /// Whether the first vertex isn't watched, or the second event happens unseen.
@@ -249,7 +249,7 @@ fn failed_later<R: ReadsWritten>(
     if one_cancels(second, a.edges.as_slice()) {
         return Some(5);
     }
-    if !others_stand_aside(model, readers, a, b) {
+    if !other_edges_are_calm(model, readers, a, b) {
         return Some(6);
     }
     if !notes_stay(model, unseen, first, a, b) {

@@ -10,7 +10,7 @@ ghost use Rattle.model_core.specs.Code.Views.{graph_of, vertex_of};
 ghost use Rattle.merge_rules.specs.FactsOfModel.{FactsAreRight};
 
 use crate::at_once::edge_at_once;
-use crate::known::FactsOfModel;
+use crate::facts::FactsOfModel;
 use crate::merging::failed_merge;
 use crate::reads_written::{ReadsWritten, Walk};
 use model_core::{Model, Vertex};
@@ -29,21 +29,21 @@ pub(crate) fn target_at_once(vertex: &Vertex) -> Option<usize>
 /// The vertex at this place with the one to which its plain urgent edge leads, where they may be merged.
 fn merge_at<R: ReadsWritten>(
     model: &Model,
-    known: &mut FactsOfModel,
+    facts: &mut FactsOfModel,
     readers: &mut R,
     first: usize,
     vertex: &Vertex,
 ) -> Option<(usize, usize)>
-    requires known { FactsAreRight (graph_of model.now) known.old }
+    requires facts { FactsAreRight (graph_of model.now) facts.old }
     requires ready { R.ready readers.old (length model.now.vars) }
     requires there { vertex_of vertex.now ≡ vertex_at (graph_of model.now) first }
     ensures found { result ≡ merge_at (graph_of model.now) first }
-    ensures known { FactsAreRight (graph_of model.now) known.new }
+    ensures facts { FactsAreRight (graph_of model.now) facts.new }
     ensures same { readers.new ≡ readers.old }
 {
     match target_at_once(vertex) {
         None => None,
-        Some(second) => match failed_merge(model, known, readers, first, second) {
+        Some(second) => match failed_merge(model, facts, readers, first, second) {
             None => Some((first, second)),
             Some(_) => None,
         },
@@ -53,17 +53,17 @@ fn merge_at<R: ReadsWritten>(
 /// The first two vertices that may be merged, with this way to find what edges read.
 fn first_merge_by<R: ReadsWritten>(
     model: &Model,
-    known: &mut FactsOfModel,
+    facts: &mut FactsOfModel,
     readers: &mut R,
 ) -> Option<(usize, usize)>
-    requires known { FactsAreRight (graph_of model.now) known.old }
+    requires facts { FactsAreRight (graph_of model.now) facts.old }
     requires ready { R.ready readers.old (length model.now.vars) }
     ensures found { result ≡ first_merge (graph_of model.now) }
-    ensures known { FactsAreRight (graph_of model.now) known.new }
+    ensures facts { FactsAreRight (graph_of model.now) facts.new }
     ensures same { readers.new ≡ readers.old }
 {
     for (first, vertex) in model.vertices.as_slice().iter().enumerate() {
-        let found = merge_at(model, known, readers, first, vertex);
+        let found = merge_at(model, facts, readers, first, vertex);
         if found.is_some() {
             return found;
         }

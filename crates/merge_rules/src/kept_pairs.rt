@@ -4,7 +4,7 @@
 ghost use Rattle.std.specs.Prelude.{◌≡◌, map, OnOk, IfOk};
 ghost use Rattle.model_core.specs.Rules.PlacedEdges.{with_place};
 ghost use Rattle.model_core.specs.Code.Views.{edge_of, vertex_of};
-ghost use Rattle.merge_rules.specs.Inner.PairMoves.{fresh_pair, with_more, with_fewer, edges_added, all_edges_added, edges_taken, standing_forgotten, target_removed, pairs_merged, moved_up};
+ghost use Rattle.merge_rules.specs.Inner.PairMoves.{fresh_pair, with_more, with_fewer, edges_added, all_edges_added, edges_taken, answer_forgotten, target_removed, pairs_merged, moved_up};
 
 use crate::first_pair::target_at_once;
 use crate::growth::Growth;
@@ -28,7 +28,7 @@ pub(crate) enum PairAnswer {
 pub(crate) struct KeptPair {
     /// Where its plain urgent edge leads, if it has one.
     pub(crate) target: Option<usize>,
-    pub(crate) standing: PairAnswer,
+    pub(crate) answer: PairAnswer,
     /// Whether it acts unseen once it has its values, if that was asked.
     pub(crate) unseen: Option<bool>,
     /// How many edges lead to the vertex.
@@ -41,7 +41,7 @@ fn fresh_pair(vertex: &Vertex) -> KeptPair
 {
     KeptPair {
         target: target_at_once(vertex),
-        standing: PairAnswer::Unknown,
+        answer: PairAnswer::Unknown,
         unseen: None,
         incoming: 0,
     }
@@ -116,12 +116,12 @@ pub(crate) fn take_edges(pairs: &mut Vec<KeptPair>, edges: &[Edge])
 }
 
 /// What is known of a vertex once another one has changed.
-fn standing_forgotten(first: usize, pair: KeptPair) -> KeptPair
-    ensures { result ≡ standing_forgotten first pair }
+fn answer_forgotten(first: usize, pair: KeptPair) -> KeptPair
+    ensures { result ≡ answer_forgotten first pair }
 {
     match pair.target {
         Some(target) if target == first => KeptPair {
-            standing: PairAnswer::Unknown,
+            answer: PairAnswer::Unknown,
             ..pair
         },
         _ => pair,
@@ -129,11 +129,11 @@ fn standing_forgotten(first: usize, pair: KeptPair) -> KeptPair
 }
 
 /// What leads at once to this vertex, which has changed, is looked at again.
-fn forget_standings(pairs: &mut Vec<KeptPair>, first: usize)
-    ensures { pairs.new.items ≡ map (standing_forgotten first) pairs.old.items }
+fn forget_answers(pairs: &mut Vec<KeptPair>, first: usize)
+    ensures { pairs.new.items ≡ map (answer_forgotten first) pairs.old.items }
 {
     for pair in pairs.iter_mut() {
-        *pair = standing_forgotten(first, *pair);
+        *pair = answer_forgotten(first, *pair);
     }
 }
 
@@ -144,7 +144,7 @@ fn remove_target(pairs: &mut Vec<KeptPair>, first: usize)
     if first < pairs.len() {
         pairs[first] = KeptPair {
             target: None,
-            standing: PairAnswer::Refused,
+            answer: PairAnswer::Refused,
             unseen: None,
             incoming: pairs[first].incoming,
         };
@@ -163,7 +163,7 @@ pub(crate) fn take_over_pairs(
 {
     add_edges(pairs, edges)?;
     take_edge(pairs, second);
-    forget_standings(pairs, first);
+    forget_answers(pairs, first);
     remove_target(pairs, first);
     Ok(())
 }

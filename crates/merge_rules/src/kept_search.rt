@@ -12,16 +12,16 @@ ghost use Rattle.model_core.specs.Rules.Merge.{is_watched_vertex, merge_conditio
 ghost use Rattle.model_core.specs.Code.Views.{graph_of, edge_of, vertex_of};
 ghost use Rattle.merge_rules.specs.FactsOfModel.{FactsAreRight};
 ghost use Rattle.merge_rules.specs.NothingCounted.{NothingCounted};
-ghost use Rattle.merge_rules.specs.PairStanding.{target_at_once, acts_unseen, pair_fits};
+ghost use Rattle.merge_rules.specs.PairFits.{target_at_once, acts_unseen, pair_fits};
 ghost use Rattle.merge_rules.specs.Growth.{pair_growth};
 ghost use Rattle.merge_rules.specs.KeptPairs.{has_incoming, FitIsRight, UnseenIsRight, PairsAreRight};
 
 use crate::conditions::{acts_unseen_at, failed_before_limits};
+use crate::facts::FactsOfModel;
 use crate::growth::{Growth, grows_by};
 use crate::kept_pairs::{
     KeptPair, PairAnswer, add_all_edges, fresh_pairs, move_up, take_edges, take_over_pairs,
 };
-use crate::known::FactsOfModel;
 use crate::law::merging_keeps_the_meaning;
 use crate::within_limits::{has_short_text, keeps_few_parts};
 use model_core::{Edge, Model, Vertex, is_watched};
@@ -82,7 +82,7 @@ fn pair_fits(
 }
 
 /// What is known of two once it was asked whether they fit, and by how much their merge makes the text longer.
-fn standing(growth: Option<Growth>) -> PairAnswer
+fn pair_answer(growth: Option<Growth>) -> PairAnswer
     ensures { FitIsRight result growth }
 {
     match growth {
@@ -95,7 +95,7 @@ fn standing(growth: Option<Growth>) -> PairAnswer
 /// model is, is then known.
 fn short_merge(
     model: &Model,
-    known: &mut FactsOfModel,
+    facts: &mut FactsOfModel,
     growth: Option<Growth>,
     first: usize,
     second: usize,
@@ -104,14 +104,14 @@ fn short_merge(
     requires target { target_at_once (vertex_at (graph_of model.now) first) ≡ Some second }
     requires there { first < length model.now.vertices }
     requires growth { growth ≡ pair_growth (graph_of model.now) first }
-    requires known { FactsAreRight (graph_of model.now) known.old }
+    requires facts { FactsAreRight (graph_of model.now) facts.old }
     ensures found { result ≡ merge_at (graph_of model.now) first }
-    ensures known { FactsAreRight (graph_of model.now) known.new }
+    ensures facts { FactsAreRight (graph_of model.now) facts.new }
 {
     let Some(grows) = growth else {
         return None;
     };
-    let bytes = known.find_bytes(model);
+    let bytes = facts.find_bytes(model);
     if has_short_text(model, bytes, first, second, grows) {
         Some((first, second))
     } else {
@@ -176,27 +176,27 @@ impl KeptPairs {
     fn measure_pair(
         &mut self,
         model: &Model,
-        known: &mut FactsOfModel,
+        facts: &mut FactsOfModel,
         counts: &mut UseCounts,
         first: usize,
         second: usize,
     ) -> Option<Growth>
         requires kept { PairsAreRight (graph_of model.now) self.old }
-        requires known { FactsAreRight (graph_of model.now) known.old }
+        requires facts { FactsAreRight (graph_of model.now) facts.old }
         requires counts { NothingCounted (length model.now.vars) counts.old }
         requires single { single_urgent (graph_of model.now) ≡ true }
         requires target { target_at_once (vertex_at (graph_of model.now) first) ≡ Some second }
         requires there { first < length model.now.vertices }
         ensures growth { result ≡ pair_growth (graph_of model.now) first }
         ensures kept { PairsAreRight (graph_of model.now) self.new }
-        ensures known { FactsAreRight (graph_of model.now) known.new }
+        ensures facts { FactsAreRight (graph_of model.now) facts.new }
         ensures counts { counts.new ≡ counts.old }
     {
         let unseen = self.unseen_where_watched(model, first, second);
         if !pair_fits(model, unseen, counts, first, second) {
             return None;
         }
-        let body = known.find_body(model, second);
+        let body = facts.find_body(model, second);
         Some(grows_by(model, first, second, body))
     }
 
@@ -204,26 +204,26 @@ impl KeptPairs {
     fn pair_growth(
         &mut self,
         model: &Model,
-        known: &mut FactsOfModel,
+        facts: &mut FactsOfModel,
         counts: &mut UseCounts,
-        standing: PairAnswer,
+        answer: PairAnswer,
         first: usize,
         second: usize,
     ) -> Option<Growth>
         requires kept { PairsAreRight (graph_of model.now) self.old }
-        requires known { FactsAreRight (graph_of model.now) known.old }
+        requires facts { FactsAreRight (graph_of model.now) facts.old }
         requires counts { NothingCounted (length model.now.vars) counts.old }
         requires single { single_urgent (graph_of model.now) ≡ true }
         requires target { target_at_once (vertex_at (graph_of model.now) first) ≡ Some second }
         requires there { first < length model.now.vertices }
-        requires standing { FitIsRight standing (pair_growth (graph_of model.now) first) }
+        requires answer { FitIsRight answer (pair_growth (graph_of model.now) first) }
         ensures growth { result ≡ pair_growth (graph_of model.now) first }
         ensures kept { PairsAreRight (graph_of model.now) self.new }
-        ensures known { FactsAreRight (graph_of model.now) known.new }
+        ensures facts { FactsAreRight (graph_of model.now) facts.new }
         ensures counts { counts.new ≡ counts.old }
     {
-        match standing {
-            PairAnswer::Unknown => self.measure_pair(model, known, counts, first, second),
+        match answer {
+            PairAnswer::Unknown => self.measure_pair(model, facts, counts, first, second),
             PairAnswer::Refused => None,
             PairAnswer::Fits(growth) => Some(growth),
         }
@@ -231,7 +231,7 @@ impl KeptPairs {
 
     /// Keeps whether the vertex at this place and the target of its plain urgent edge fit, and by how much their merge makes
     /// the text longer.
-    fn keep_standing(&mut self, model: &Model, first: usize, growth: Option<Growth>)
+    fn keep_answer(&mut self, model: &Model, first: usize, growth: Option<Growth>)
         requires kept { PairsAreRight (graph_of model.now) self.old }
         requires there { first < length model.now.vertices }
         requires growth { growth ≡ pair_growth (graph_of model.now) first }
@@ -239,7 +239,7 @@ impl KeptPairs {
     {
         let pair = self.pairs[first];
         self.pairs[first] = KeptPair {
-            standing: standing(growth),
+            answer: pair_answer(growth),
             ..pair
         };
     }
@@ -248,27 +248,27 @@ impl KeptPairs {
     fn merge_at(
         &mut self,
         model: &Model,
-        known: &mut FactsOfModel,
+        facts: &mut FactsOfModel,
         counts: &mut UseCounts,
         first: usize,
     ) -> Option<(usize, usize)>
         requires kept { PairsAreRight (graph_of model.now) self.old }
         requires single { single_urgent (graph_of model.now) ≡ true }
         requires there { first < length model.now.vertices }
-        requires known { FactsAreRight (graph_of model.now) known.old }
+        requires facts { FactsAreRight (graph_of model.now) facts.old }
         requires counts { NothingCounted (length model.now.vars) counts.old }
         ensures found { result ≡ merge_at (graph_of model.now) first }
         ensures kept { PairsAreRight (graph_of model.now) self.new }
-        ensures known { FactsAreRight (graph_of model.now) known.new }
+        ensures facts { FactsAreRight (graph_of model.now) facts.new }
         ensures counts { counts.new ≡ counts.old }
     {
         let pair = self.pairs[first];
         match pair.target {
             None => None,
             Some(second) => {
-                let growth = self.pair_growth(model, known, counts, pair.standing, first, second);
-                self.keep_standing(model, first, growth);
-                short_merge(model, known, growth, first, second)
+                let growth = self.pair_growth(model, facts, counts, pair.answer, first, second);
+                self.keep_answer(model, first, growth);
+                short_merge(model, facts, growth, first, second)
             }
         }
     }
@@ -277,20 +277,20 @@ impl KeptPairs {
     fn first_single(
         &mut self,
         model: &Model,
-        known: &mut FactsOfModel,
+        facts: &mut FactsOfModel,
         counts: &mut UseCounts,
     ) -> Option<(usize, usize)>
         requires kept { PairsAreRight (graph_of model.now) self.old }
         requires single { single_urgent (graph_of model.now) ≡ true }
-        requires known { FactsAreRight (graph_of model.now) known.old }
+        requires facts { FactsAreRight (graph_of model.now) facts.old }
         requires counts { NothingCounted (length model.now.vars) counts.old }
         ensures found { result ≡ first_merge (graph_of model.now) }
         ensures kept { PairsAreRight (graph_of model.now) self.new }
-        ensures known { FactsAreRight (graph_of model.now) known.new }
+        ensures facts { FactsAreRight (graph_of model.now) facts.new }
         ensures counts { counts.new ≡ counts.old }
     {
         for first in 0..model.vertices.len() {
-            let found = self.merge_at(model, known, counts, first);
+            let found = self.merge_at(model, facts, counts, first);
             if found.is_some() {
                 return found;
             }
@@ -303,19 +303,19 @@ impl KeptPairs {
     pub fn first_merge(
         &mut self,
         model: &Model,
-        known: &mut FactsOfModel,
+        facts: &mut FactsOfModel,
         counts: &mut UseCounts,
     ) -> Option<(usize, usize)>
         requires kept { PairsAreRight (graph_of model.now) self.old }
-        requires known { FactsAreRight (graph_of model.now) known.old }
+        requires facts { FactsAreRight (graph_of model.now) facts.old }
         requires counts { NothingCounted (length model.now.vars) counts.old }
         ensures found { result ≡ first_merge (graph_of model.now) }
         ensures kept { PairsAreRight (graph_of model.now) self.new }
-        ensures known { FactsAreRight (graph_of model.now) known.new }
+        ensures facts { FactsAreRight (graph_of model.now) facts.new }
         ensures counts { counts.new ≡ counts.old }
     {
-        if known.find_single(model) {
-            self.first_single(model, known, counts)
+        if facts.find_single(model) {
+            self.first_single(model, facts, counts)
         } else {
             None
         }

@@ -4,12 +4,12 @@
 mod at_once;
 mod bodies;
 mod conditions;
+mod edge_facts;
+mod facts;
 mod first_pair;
 mod growth;
 mod kept_pairs;
 mod kept_search;
-mod known;
-mod known_edges;
 mod law;
 mod merging;
 mod other_edges;
@@ -18,13 +18,13 @@ mod taking_over;
 mod within_limits;
 
 pub use bodies::Bodies;
+pub use edge_facts::{keep_after_prune, keep_after_settle};
+pub use facts::FactsOfModel;
 pub use first_pair::first_merge;
 pub use kept_search::KeptPairs;
-pub use known::FactsOfModel;
-pub use known_edges::{keep_after_prune, keep_after_settle};
 pub use law::{
     at_most_one_event_is_urgent, merging_adds_the_growth, merging_brings_no_rule_of_edges,
-    merging_keeps_the_meaning, merging_takes_an_urgent_edge,
+    merging_keeps_the_meaning, merging_takes_an_urgent_edge, new_counts_count_nothing,
 };
 pub use merging::{merge, merge_holding, merge_measured};
 pub use taking_over::SecondVertex;

@@ -12,8 +12,8 @@ ghost use Rattle.merge_rules.specs.FactsOfModel.{FactsAreRight, text_length};
 ghost use Rattle.merge_rules.specs.NothingCounted.{NothingCounted};
 
 use crate::conditions::failed_before_limits;
+use crate::facts::{FactsOfModel, version_length};
 use crate::growth::grows_by;
-use crate::known::{FactsOfModel, version_length};
 use crate::reads_written::ReadsWritten;
 use crate::taking_over::{SecondVertex, put_together};
 use crate::within_limits::{is_within_limits, merged_length, urgent_place};
@@ -25,22 +25,22 @@ use use_analysis::UseCounts;
 /// The first condition of merge that fails, by its number from 1. What is found of the model on the way is known then.
 pub(crate) fn failed_merge<R: ReadsWritten>(
     model: &Model,
-    known: &mut FactsOfModel,
+    facts: &mut FactsOfModel,
     readers: &mut R,
     first: usize,
     second: usize,
 ) -> Option<u8>
-    requires known { FactsAreRight (graph_of model.now) known.old }
+    requires facts { FactsAreRight (graph_of model.now) facts.old }
     requires ready { R.ready readers.old (length model.now.vars) }
     ensures failed { result ≡ first_failed (merge_conditions (graph_of model.now) first second) }
-    ensures known { FactsAreRight (graph_of model.now) known.new }
+    ensures facts { FactsAreRight (graph_of model.now) facts.new }
     ensures same { readers.new ≡ readers.old }
 {
-    let single = known.find_single(model);
+    let single = facts.find_single(model);
     if let Some(condition) = failed_before_limits(model, single, None, readers, first, second) {
         return Some(condition);
     }
-    if is_within_limits(model, known, first, second) {
+    if is_within_limits(model, facts, first, second) {
         None
     } else {
         Some(8)
@@ -61,33 +61,33 @@ fn bytes_leaving(second: SecondVertex, body: u64) -> u64
 pub fn merge_holding(
     alloc: Global,
     model: &mut Model,
-    known: &mut FactsOfModel,
+    facts: &mut FactsOfModel,
     vertex: usize,
     target: usize,
     second: SecondVertex,
 ) -> Result<(), NoMemory>
-    requires known { FactsAreRight (graph_of model.old) known.old }
+    requires facts { FactsAreRight (graph_of model.old) facts.old }
     requires holds { first_failed (merge_conditions (graph_of model.old) vertex target) ≡ None }
     ensures done { OnOk result
         (graph_of model.new ≡ merged_leaving second (graph_of model.old) vertex target) }
     ensures unchanged { OnErr result (graph_of model.new ≡ graph_of model.old) }
-    ensures known { FactsAreRight (graph_of model.new) known.new }
+    ensures facts { FactsAreRight (graph_of model.new) facts.new }
     ensures measured { OnOk result
-        ((text_length known.new ≡ Some (length (canonical (graph_of model.new))))
-        × (known.new.single ≡ Some true)) }
+        ((text_length facts.new ≡ Some (length (canonical (graph_of model.new))))
+        × (facts.new.single ≡ Some true)) }
 {
-    let body = known.find_body(model, target);
+    let body = facts.find_body(model, target);
     let grows = grows_by(model, vertex, target, body);
-    let merged_body = known.find_merged_body(model, vertex, target, grows);
-    let version = version_length(known.find_version(model));
-    let bytes = merged_length(model, known.text_length(), vertex, target, grows);
+    let merged_body = facts.find_merged_body(model, vertex, target, grows);
+    let version = version_length(facts.find_version(model));
+    let bytes = merged_length(model, facts.text_length(), vertex, target, grows);
     let place = urgent_place(&model.vertices.as_slice()[vertex]);
     put_together(alloc, model, vertex, place, target, second)?;
     let gone = bytes_leaving(second, body);
-    known.lines = Some(bytes - gone - version);
-    known.single = Some(true);
-    known.bodies.put(vertex, merged_body);
-    known.bodies.put(target, Some(body - gone));
+    facts.lines = Some(bytes - gone - version);
+    facts.single = Some(true);
+    facts.bodies.put(vertex, merged_body);
+    facts.bodies.put(target, Some(body - gone));
     Ok(())
 }
 
@@ -97,13 +97,13 @@ pub fn merge_holding(
 pub fn merge_measured(
     alloc: Global,
     model: &mut Model,
-    known: &mut FactsOfModel,
+    facts: &mut FactsOfModel,
     counts: &mut UseCounts,
     vertex: usize,
     target: usize,
     second: SecondVertex,
 ) -> Result<(), RuleError>
-    requires known { FactsAreRight (graph_of model.old) known.old }
+    requires facts { FactsAreRight (graph_of model.old) facts.old }
     requires counts { NothingCounted (length model.old.vars) counts.old }
     ensures done { OnOk result
         ((first_failed (merge_conditions (graph_of model.old) vertex target) ≡ None)
@@ -112,16 +112,16 @@ pub fn merge_measured(
         (λ e. NamesCondition e
         (first_failed (merge_conditions (graph_of model.old) vertex target))) }
     ensures unchanged { OnErr result (graph_of model.new ≡ graph_of model.old) }
-    ensures known { FactsAreRight (graph_of model.new) known.new }
+    ensures facts { FactsAreRight (graph_of model.new) facts.new }
     ensures measured { OnOk result
-        ((text_length known.new ≡ Some (length (canonical (graph_of model.new))))
-        × (known.new.single ≡ Some true)) }
+        ((text_length facts.new ≡ Some (length (canonical (graph_of model.new))))
+        × (facts.new.single ≡ Some true)) }
     ensures counts { counts.new ≡ counts.old }
 {
-    if let Some(condition) = failed_merge(model, known, counts, vertex, target) {
+    if let Some(condition) = failed_merge(model, facts, counts, vertex, target) {
         return Err(RuleError::Refused { condition });
     }
-    merge_holding(alloc, model, known, vertex, target, second)?;
+    merge_holding(alloc, model, facts, vertex, target, second)?;
     Ok(())
 }
 

@@ -12,12 +12,12 @@ use range_bounds::plain_urgent;
 #[derive(Clone, Copy)]
 pub(crate) struct OtherEdges<'e> {
     pub before: &'e [Edge],
-    pub behind: &'e [Edge],
+    pub after: &'e [Edge],
 }
 
 /// The edges of the vertex but its plain urgent one: all, where it has none.
 pub(crate) fn other_edges(vertex: &Vertex) -> OtherEdges<'_>
-    ensures { map edge_of (result.before.now ++ result.behind.now)
+    ensures { map edge_of (result.before.now ++ result.after.now)
         ≡ other_edges (vertex_of vertex.now) }
 {
     let edges = vertex.edges.as_slice();
@@ -25,25 +25,25 @@ pub(crate) fn other_edges(vertex: &Vertex) -> OtherEdges<'_>
         Some(place) => all_but(edges, place),
         None => OtherEdges {
             before: edges,
-            behind: &[],
+            after: &[],
         },
     }
 }
 
 /// All of these edges but the one at this place.
 fn all_but(edges: &[Edge], place: usize) -> OtherEdges<'_>
-    ensures { map edge_of (result.before.now ++ result.behind.now)
+    ensures { map edge_of (result.before.now ++ result.after.now)
         ≡ remove (map edge_of edges.now) place }
 {
     if place < edges.len() {
         OtherEdges {
             before: &edges[..place],
-            behind: &edges[place + 1..],
+            after: &edges[place + 1..],
         }
     } else {
         OtherEdges {
             before: edges,
-            behind: &[],
+            after: &[],
         }
     }
 }

@@ -24,13 +24,13 @@ pub(crate) trait ReadsWritten {
         &mut self,
         model: &Model,
         before: &[Edge],
-        behind: &[Edge],
+        after: &[Edge],
         vertex: &Vertex,
     ) -> bool
         requires { ready self.old (length model.now.vars) }
         ensures is { result
             ≡ list_any (reads_one_of (vertex_writes (vertex_of vertex.now)))
-            (map edge_of (before.now ++ behind.now)) }
+            (map edge_of (before.now ++ after.now)) }
         ensures same { self.new ≡ self.old };
 }
 
@@ -45,10 +45,10 @@ impl ReadsWritten for Walk {
         &mut self,
         _model: &Model,
         before: &[Edge],
-        behind: &[Edge],
+        after: &[Edge],
         vertex: &Vertex,
     ) -> bool {
-        walked(before, behind, vertex)
+        walked(before, after, vertex)
     }
 }
 
@@ -59,28 +59,28 @@ impl ReadsWritten for UseCounts {
         &mut self,
         model: &Model,
         before: &[Edge],
-        behind: &[Edge],
+        after: &[Edge],
         vertex: &Vertex,
     ) -> bool {
-        if before.is_empty() && behind.is_empty() {
+        if before.is_empty() && after.is_empty() {
             return false;
         }
-        if before.len() > EDGES_MAX || behind.len() > EDGES_MAX {
-            return walked(before, behind, vertex);
+        if before.len() > EDGES_MAX || after.len() > EDGES_MAX {
+            return walked(before, after, vertex);
         }
         add_edges(self, before);
-        add_edges(self, behind);
+        add_edges(self, after);
         let read = one_written_passes(
             &Counted {
                 counts: self,
                 variables: model.vars.len(),
                 before,
-                behind,
+                after,
             },
             vertex,
         );
         take_edges(self, before);
-        take_edges(self, behind);
+        take_edges(self, after);
         read
     }
 }
@@ -113,12 +113,12 @@ fn one_walked(edges: &[Edge], vertex: &Vertex) -> bool
     false
 }
 
-fn walked(before: &[Edge], behind: &[Edge], vertex: &Vertex) -> bool
+fn walked(before: &[Edge], after: &[Edge], vertex: &Vertex) -> bool
     ensures { result
         ≡ list_any (reads_one_of (vertex_writes (vertex_of vertex.now)))
-        (map edge_of (before.now ++ behind.now)) }
+        (map edge_of (before.now ++ after.now)) }
 {
-    one_walked(before, vertex) || one_walked(behind, vertex)
+    one_walked(before, vertex) || one_walked(after, vertex)
 }
 
 // ---- by counts
@@ -129,17 +129,17 @@ struct Counted<'e> {
     counts: &'e UseCounts,
     variables: usize,
     before: &'e [Edge],
-    behind: &'e [Edge],
+    after: &'e [Edge],
 }
 
 impl NumberTest for Counted<'_> {
-    ghost test = { λ c v. is_read_by_counts c.variables c.counts.now.readers (map edge_of c.before.now) (map edge_of c.behind.now) v };
+    ghost test = { λ c v. is_read_by_counts c.variables c.counts.now.readers (map edge_of c.before.now) (map edge_of c.after.now) v };
 
     fn passes(&self, number: usize) -> bool {
         if number < self.variables {
             self.counts.readers(number) > 0
         } else {
-            one_reads(self.before, number) || one_reads(self.behind, number)
+            one_reads(self.before, number) || one_reads(self.after, number)
         }
     }
 }

@@ -13,8 +13,8 @@ ghost use Rattle.model_core.specs.Code.Views.{graph_of, vertex_of};
 ghost use Rattle.merge_rules.specs.FactsOfModel.{TextLengthIsRight, FactsAreRight};
 ghost use Rattle.merge_rules.specs.Growth.{bytes_gone, capped, growth};
 
+use crate::facts::FactsOfModel;
 use crate::growth::{Growth, grows_by};
-use crate::known::FactsOfModel;
 use model_core::{Model, Vertex};
 use model_print::length_without_edge;
 use range_bounds::plain_urgent;
@@ -139,21 +139,21 @@ pub(crate) fn has_short_text(
 /// Whether the result is within the limits. What is found of the model on the way is known then.
 pub(crate) fn is_within_limits(
     model: &Model,
-    known: &mut FactsOfModel,
+    facts: &mut FactsOfModel,
     first: usize,
     second: usize,
 ) -> bool
-    requires known { FactsAreRight (graph_of model.now) known.old }
+    requires facts { FactsAreRight (graph_of model.now) facts.old }
     requires holds { first_failed (take 7 (merge_conditions (graph_of model.now) first second))
         ≡ None }
     ensures is { result ≡ is_within_limits (merged (graph_of model.now) first second) first }
-    ensures known { FactsAreRight (graph_of model.now) known.new }
+    ensures facts { FactsAreRight (graph_of model.now) facts.new }
 {
     if !keeps_few_parts(model, first, second) {
         return false;
     }
-    let bytes = known.find_bytes(model);
-    let body = known.find_body(model, second);
+    let bytes = facts.find_bytes(model);
+    let body = facts.find_body(model, second);
     let grows = grows_by(model, first, second, body);
     has_short_text(model, bytes, first, second, grows)
 }

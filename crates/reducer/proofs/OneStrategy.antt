@@ -1,5 +1,6 @@
 -- The strategy makes one list of applications of a graph, and reaches one graph.
-use Rattle.std.proofs.Common.{◌≡◌, List, [], ◌∷◌, Option, Some, None, sym, ap, ◌∙◌, subst}
+use Rattle.std.proofs.Common.{◌≡◌, List, [], ◌∷◌, Option, Some, sym, ap, ◌∙◌, subst}
+use Rattle.sig_base.proofs.Tests.{some_is_not_none}
 use Rattle.model_core.specs.EventGraph.{EventGraph}
 use Rattle.model_core.specs.Rules.Reduction.{RuleApplication, first_rule, applied, Strategy}
 
@@ -13,9 +14,6 @@ result applications graph = record { applications = applications; graph = graph 
 
 same_next : {A : Type 0} (o : Option A) (x y : A) → o ≡ Some x → o ≡ Some y → x ≡ y
 same_next o x y e f = cc
-
-some_is_not_none : {A : Type 0} (o : Option A) (x : A) → o ≡ None → o ≡ Some x → ⊥
-some_is_not_none o x e f = cc
 
 pub one_strategy : (a b : List RuleApplication) (g h k : EventGraph) → Strategy g a h → Strategy g b k → result a h ≡ result b k
 one_strategy [] [] g h k p q = ap (result []) (sym p.1 ∙ q.1)

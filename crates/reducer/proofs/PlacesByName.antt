@@ -1,8 +1,9 @@
 -- What has a name of its own is found by it: the vertices and the variables of a valid model.
-use Rattle.std.proofs.Common.{◌≡◌, ℕ, zero, suc, ◌+◌, ◌<◌, Bool, true, false, ◌&&◌, eq-eqb, cond, List, [], ◌∷◌, ◌++◌, map, length, Some, refl, ap, ◌∙◌, arith}
+use Rattle.std.proofs.Common.{◌≡◌, ℕ, zero, suc, ◌+◌, ◌<◌, Bool, false, cond, List, [], ◌∷◌, ◌++◌, map, length, Some, refl, ap, ◌∙◌, arith}
 use Rattle.std.specs.Prelude.{slice_get}
 use Rattle.std.specs.List.{IsDistinct, AllByRecursion}
 use Rattle.std.specs.Option.{option_map, option_map_or, option_and_then}
+use lib.Pointwise.{bytes_decides}
 use Rattle.model_core.specs.EventGraph.{EventGraph, EventVertex, Variable, WeightTable}
 use Rattle.model_core.specs.Text.Lexing.{same_bytes}
 use Rattle.model_core.specs.Text.Numbering.{declared_place, each_numbered}
@@ -19,10 +20,10 @@ distinct_front same (x ∷ front) back distinct = (unlike front distinct.0, dist
   unlike [] all = tt
   unlike (y ∷ front) all = (all.0, unlike front all.1)
 
-distinct_behind : {A : Type 0} (same : A → A → Bool) (front back : List A) → IsDistinct same (front ++ back) → IsDistinct same back
+distinct-back : {A : Type 0} (same : A → A → Bool) (front back : List A) → IsDistinct same (front ++ back) → IsDistinct same back
 unfolding IsDistinct
-distinct_behind same [] back distinct = distinct
-distinct_behind same (x ∷ front) back distinct = distinct_behind same front back distinct.1
+distinct-back same [] back distinct = distinct
+distinct-back same (x ∷ front) back distinct = distinct-back same front back distinct.1
 
 module _ (g : EventGraph) (valid : IsValid g) where
   abbrev variables : List (List ℕ)
@@ -41,13 +42,9 @@ module _ (g : EventGraph) (valid : IsValid g) where
   variables_distinct = distinct_front same_bytes variables tables (distinct_front same_bytes (variables ++ tables) vertices declared_once)
 
   pub vertices_distinct : IsDistinct same_bytes vertices
-  vertices_distinct = distinct_behind same_bytes (variables ++ tables) vertices declared_once
+  vertices_distinct = distinct-back same_bytes (variables ++ tables) vertices declared_once
 
 -- ---- places of names
-
-pub same_bytes-refl : (name : List ℕ) → same_bytes name name ≡ true
-same_bytes-refl [] = refl
-same_bytes-refl (n ∷ name) = ap (λ b. b && same_bytes name name) (eq-eqb n n refl) ∙ same_bytes-refl name
 
 module _ {A : Type 0} (name_of : A → List ℕ) where
   -- the name of the element at a place
@@ -62,7 +59,7 @@ module _ {A : Type 0} (name_of : A → List ℕ) where
   pub place_of_its_name : (xs : List A) (k : ℕ) → k < length xs → IsDistinct same_bytes (map name_of xs) → declared_place (name_at xs k) (map name_of xs) ≡ Some k
   unfolding IsDistinct
   place_of_its_name [] k below distinct = absurd (omega arith)
-  place_of_its_name (x ∷ xs) zero below distinct = ap (λ b. cond b (Some 0) (option_map (λ k. k + 1) (declared_place (name_of x) (map name_of xs)))) (same_bytes-refl (name_of x))
+  place_of_its_name (x ∷ xs) zero below distinct = ap (λ b. cond b (Some 0) (option_map (λ k. k + 1) (declared_place (name_of x) (map name_of xs)))) ((bytes_decides (name_of x) (name_of x)).1 refl)
   place_of_its_name (x ∷ xs) (suc k) below distinct =
       let name = name_at xs k in
       ap (λ b. cond b (Some 0) (option_map (λ k. k + 1) (declared_place name (map name_of xs)))) (unlike_later (name_of x) xs k (omega arith) distinct.0)

@@ -44,23 +44,23 @@ led_on leaves one_valid g h k before between after false e led made = cc
 module _ (leaves : LeavesEdges) (one_valid : (g h : EventGraph) (a : RuleApplication) → IsValid g → applied g a ≡ Some h → IsValid h) where
   pub led_further : (g h k : EventGraph) (before between after : List RuleApplication) (made : Bool) → made ≡ true → Led g h before between → MadeThenDrop first_rule made h k between after → Led g k before after
   led_further g h k before between after false e led made = cc
-  led_further g h k before between after true e led (next, middle, first, more) = behind more (led_on leaves one_valid g h next before between middle true refl led first) where
-    behind : DropMayFollow next k middle after → Led g next before middle → Led g k before after
-    behind (nothing_more same unnoted) led = subst (λ (k : EventGraph). Led g k before after) (sym same) (subst (λ (as_ : List RuleApplication). Led g next before as_) (sym unnoted) led)
-    behind (dropped_too drop) led = led_on leaves one_valid g next k before middle after true refl led (drop_is_made next k middle after led.none true refl drop)
+  led_further g h k before between after true e led (next, middle, first, more) = then_drop more (led_on leaves one_valid g h next before between middle true refl led first) where
+    then_drop : DropMayFollow next k middle after → Led g next before middle → Led g k before after
+    then_drop (nothing_more same unnoted) led = subst (λ (k : EventGraph). Led g k before after) (sym same) (subst (λ (as_ : List RuleApplication). Led g next before as_) (sym unnoted) led)
+    then_drop (dropped_too drop) led = led_on leaves one_valid g next k before middle after true refl led (drop_is_made next k middle after led.none true refl drop)
 
   pub leaves_less : MergesTakeOne → (g h k : EventGraph) (before between after : List RuleApplication) (made : Bool) → made ≡ true → Led g h before between → MadeThenDrop first_rule made h k between after → measure k < measure h
   leaves_less takes g h k before between after false e led made = cc
-  leaves_less takes g h k before between after true e led (next, middle, first, more) = behind more where
+  leaves_less takes g h k before between after true e led (next, middle, first, more) = then_drop more where
     one_less : (h k : EventGraph) (between after : List RuleApplication) → NoEdgeRule h → MadeAndNoted (first_rule h) true h k between after → measure k < measure h
     one_less h k between after none (a, is, made, noted) = applied_leaves_less takes h k a none is made
 
     fewer : measure next < measure h
     fewer = one_less h next between middle led.none first
 
-    behind : DropMayFollow next k middle after → measure k < measure h
-    behind (nothing_more same unnoted) = subst (λ (k : EventGraph). measure k < measure h) (sym same) fewer
-    behind (dropped_too drop) =
+    then_drop : DropMayFollow next k middle after → measure k < measure h
+    then_drop (nothing_more same unnoted) = subst (λ (k : EventGraph). measure k < measure h) (sym same) fewer
+    then_drop (dropped_too drop) =
         let none = (led_on leaves one_valid g h next before between middle true refl led first).none in
         let fewer_still = one_less next k middle after none (drop_is_made next k middle after none true refl drop) in
         omega (arith, fewer, fewer_still)
@@ -95,14 +95,14 @@ noted_more old new x is = ap (map application_of) is ∙ more old where
 
 -- a rule whose conditions hold isn't refused
 pub not_refused : {A : Type 0} (given : Result A RuleError) (condition : ℕ) (failed : Option ℕ) → given ≡ Err (errors.Refused condition) → IfErr given (λ e. NamesCondition e failed) → failed ≡ None → ⊥
-not_refused given condition failed is tells holds =
-    let told : failed ≡ Some condition = subst (λ (r : Result _ RuleError). IfErr r (λ e. NamesCondition e failed)) is tells in cc
+not_refused given condition failed is refused_so holds =
+    let fails : failed ≡ Some condition = subst (λ (r : Result _ RuleError). IfErr r (λ e. NamesCondition e failed)) is refused_so in cc
 
 pub answer_made : (one : Option RuleApplication) (g h : EventGraph) (before after : List RuleApplication) {P : Type 0} {failed : Option ℕ} (answer : Result Bool NoMemory) (given : Result (Unit {0}) RuleError)
     → (answer ≡ Ok true → given ≡ Ok tt) → (answer ≡ Ok false → (condition : ℕ) × (given ≡ Err (errors.Refused condition)))
     → OnOk given P → IfErr given (λ e. NamesCondition e failed) → failed ≡ None → (P → MadeAndNoted one true g h before after)
     → IfOk answer (λ made. MadeAndNoted one made g h before after)
-answer_made one g h before after {P} (Ok true) given made refused done tells holds makes = makes (subst (λ (r : Result (Unit {0}) RuleError). OnOk r P) (made refl) done)
-answer_made one g h before after {failed} (Ok false) given made refused done tells holds makes =
-    let (condition, is) = refused refl in absurd (not_refused given condition failed is tells holds)
-answer_made one g h before after (Err e) given made refused done tells holds makes = tt
+answer_made one g h before after {P} (Ok true) given made refused done refused_so holds makes = makes (subst (λ (r : Result (Unit {0}) RuleError). OnOk r P) (made refl) done)
+answer_made one g h before after {failed} (Ok false) given made refused done refused_so holds makes =
+    let (condition, is) = refused refl in absurd (not_refused given condition failed is refused_so holds)
+answer_made one g h before after (Err e) given made refused done refused_so holds makes = tt

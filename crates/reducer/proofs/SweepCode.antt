@@ -49,25 +49,20 @@ one_noted rule g name before next i edges e b so_far now all below is test over 
 
 -- ---- the edge at a place
 
-pub some_there : {A : Type 0} (xs : List A) (k : ℕ) → k < length xs → (x : A) × (x ≡ get_or xs k x)
-some_there [] k below = absurd (omega (arith, below))
-some_there (x ∷ xs) zero below = (x, refl)
-some_there (x ∷ xs) (suc k) below = some_there xs k (omega (arith, below))
-
 pub one_there : {A : Type 0} (xs : List A) (k : ℕ) (x y : A) → k < length xs → x ≡ get_or xs k x → y ≡ get_or xs k y → x ≡ y
 one_there [] k x y below is_x is_y = absurd (omega (arith, below))
 one_there (z ∷ xs) zero x y below is_x is_y = is_x ∙ sym is_y
 one_there (z ∷ xs) (suc k) x y below is_x is_y = one_there xs k x y (omega (arith, below)) is_x is_y
 
-read_behind : {A : Type 0} (xs : List A) (k : ℕ) (d : A) → get_or (drop k xs) 0 d ≡ get_or xs k d
-read_behind [] zero d = refl
-read_behind [] (suc k) d = refl
-read_behind (x ∷ xs) zero d = refl
-read_behind (x ∷ xs) (suc k) d = read_behind xs k d
+get_or_zero-drop : {A : Type 0} (xs : List A) (k : ℕ) (d : A) → get_or (drop k xs) 0 d ≡ get_or xs k d
+get_or_zero-drop [] zero d = refl
+get_or_zero-drop [] (suc k) d = refl
+get_or_zero-drop (x ∷ xs) zero d = refl
+get_or_zero-drop (x ∷ xs) (suc k) d = get_or_zero-drop xs k d
 
 -- lists that are the same from a place on have the same element there
 pub same_there : {A : Type 0} (xs ys : List A) (k : ℕ) (x : A) → drop k ys ≡ drop k xs → x ≡ get_or ys k x → x ≡ get_or xs k x
-same_there xs ys k x same is = is ∙ sym (read_behind ys k x) ∙ ap (λ zs. get_or zs 0 x) same ∙ read_behind xs k x
+same_there xs ys k x same is = is ∙ sym (get_or_zero-drop ys k x) ∙ ap (λ zs. get_or zs 0 x) same ∙ get_or_zero-drop xs k x
 
 -- one edge more is settled or not, at its own place
 pub one_further : (before : ℕ) (b : Bool) → before + 1 ≡ next_before rules.Settle before b

@@ -4,6 +4,7 @@ use Rattle.std.specs.Prelude.{slice_get}
 use Rattle.std.specs.List.{IsDistinct, AllByRecursion, flat_map}
 use Rattle.std.specs.Option.{option_map, option_map_or, option_and_then, option_or}
 use Rattle.std.proofs.lemmas.Bool.{and_parts}
+use lib.Pointwise.{bytes_decides}
 use Rattle.sig_base.proofs.Lists.{get-after, remove-after}
 use Rattle.model_core.specs.Text.Lexing.{same_bytes}
 use Rattle.model_core.specs.Text.Canonical.{vertex_name}
@@ -21,8 +22,7 @@ use Rattle.edge_pruning.specs.declared.finding.EdgeRule.TheVariants as rules
 use Rattle.edge_pruning.specs.EdgeRules.{edge_test}
 use Rattle.reduction_cert.specs.EdgeApplications.{application_by}
 use Rattle.reducer.specs.Inner.Sweep.{edges_instead, count_instead, left_by_sweep, swept_vertex, applied_where, applied_after, applied_to_all}
-use Rattle.reducer.proofs.PlacesByName.{same_bytes-refl}
-use Rattle.reducer.proofs.FirstEdge.{first_edge-behind}
+use Rattle.reducer.proofs.FirstEdge.{first_edge-after}
 use Rattle.reducer.proofs.FirstRules.{AreFirst, are_first-append}
 use Rattle.reducer.proofs.FirstLaterRule.{later_rule}
 
@@ -38,11 +38,11 @@ name_of v = v.name
 abbrev pub NotNamed : List ℕ → List EventVertex → Type 0
 NotNamed name front = AllByRecursion (λ (v : EventVertex). same_bytes v.name name ≡ false) front
 
-pub place_of_vertex-behind : (front : List EventVertex) (v : EventVertex) (later : List EventVertex) → NotNamed v.name front → place_of_vertex v.name (front ++ v ∷ later) ≡ Some (length front)
-place_of_vertex-behind [] v later h = ap (λ b. cond b (Some 0) (option_map (λ k. k + 1) (place_of_vertex v.name later))) (same_bytes-refl v.name)
-place_of_vertex-behind (w ∷ front) v later h =
+pub place_of_vertex-after : (front : List EventVertex) (v : EventVertex) (later : List EventVertex) → NotNamed v.name front → place_of_vertex v.name (front ++ v ∷ later) ≡ Some (length front)
+place_of_vertex-after [] v later h = ap (λ b. cond b (Some 0) (option_map (λ k. k + 1) (place_of_vertex v.name later))) ((bytes_decides v.name v.name).1 refl)
+place_of_vertex-after (w ∷ front) v later h =
     ap (λ b. cond b (Some 0) (option_map (λ k. k + 1) (place_of_vertex v.name (front ++ v ∷ later)))) h.0
-    ∙ ap (option_map (λ k. k + 1)) (place_of_vertex-behind front v later h.1) ∙ ap Some (omega arith)
+    ∙ ap (option_map (λ k. k + 1)) (place_of_vertex-after front v later h.1) ∙ ap Some (omega arith)
 
 first_named : (name : List ℕ) (front : List EventVertex) (v : EventVertex) (later : List EventVertex) → AllByRecursion (λ y. same_bytes name y ≡ false) (map name_of (front ++ v ∷ later)) → same_bytes name v.name ≡ false
 first_named name [] v later h = h.0
@@ -53,9 +53,9 @@ unfolding IsDistinct
 not_named [] v later h = tt
 not_named (w ∷ front) v later h = (first_named w.name front v later h.0, not_named front v later h.1)
 
-with_place-behind : {A : Type 0} (f : A → A) (front : List A) (x : A) (later : List A) → with_place f (length front) (front ++ x ∷ later) ≡ front ++ f x ∷ later
-with_place-behind f [] x later = refl
-with_place-behind f (w ∷ front) x later = ap (λ xs. w ∷ xs) (with_place-behind f front x later)
+with_place-after : {A : Type 0} (f : A → A) (front : List A) (x : A) (later : List A) → with_place f (length front) (front ++ x ∷ later) ≡ front ++ f x ∷ later
+with_place-after f [] x later = refl
+with_place-after f (w ∷ front) x later = ap (λ xs. w ∷ xs) (with_place-after f front x later)
 
 -- ---- what a rule asks of edges, so that no rule before it applies
 
@@ -104,7 +104,7 @@ module _ (g : EventGraph) (front : List EventVertex) (v : EventVertex) (later : 
     named : edge_named h v.name (length kept + 1) ≡ Some (length front, length kept)
     named =
         let number : from_zero (length kept + 1) ≡ Some (length kept) = rw add-one refl in
-        ap (option_and_then (λ vertex. option_map (λ edge. (vertex, edge)) (from_zero (length kept + 1)))) (place_of_vertex-behind front w later unnamed) ∙ ap (option_map (λ edge. (length front, edge))) number
+        ap (option_and_then (λ vertex. option_map (λ edge. (vertex, edge)) (from_zero (length kept + 1)))) (place_of_vertex-after front w later unnamed) ∙ ap (option_map (λ edge. (length front, edge))) number
 
     edge_there : edge_at h (length front) (length kept) ≡ Some e
     edge_there = ap (option_and_then (λ (x : EventVertex). slice_get x.edges (length kept))) (get-after front w later) ∙ get-after kept e es
@@ -116,7 +116,7 @@ module _ (g : EventGraph) (front : List EventVertex) (v : EventVertex) (later : 
     prune_holds passes = ap (λ (o : Option EventEdge). first_failed (is_some o ∷ option_map_or (has_refuted_condition h) o false ∷ [])) edge_there ∙ ap (λ b. first_failed (true ∷ b ∷ [])) passes
 
     prune_leaves : pruned h (length front) (length kept) ≡ at_edges (kept ++ es)
-    prune_leaves = ap (with_vertices g) (with_place-behind (without_edge (length kept)) front w later ∙ ap (λ (x : List EventEdge). front ++ with_edges v x ∷ later) (remove-after kept e es))
+    prune_leaves = ap (with_vertices g) (with_place-after (without_edge (length kept)) front w later ∙ ap (λ (x : List EventEdge). front ++ with_edges v x ∷ later) (remove-after kept e es))
 
     settle_holds : can_be_settled g e ≡ true → first_failed (settle_conditions h (length front) (length kept)) ≡ None
     settle_holds passes =
@@ -124,7 +124,7 @@ module _ (g : EventGraph) (front : List EventVertex) (v : EventVertex) (later : 
         ap (λ (o : Option EventEdge). first_failed (is_some o ∷ option_map_or is_conditional o false ∷ option_map_or (has_proved_condition h) o false ∷ [])) edge_there ∙ ap₂ (λ a b. first_failed (true ∷ a ∷ b ∷ [])) both.0 both.1
 
     settle_leaves : settled h (length front) (length kept) ≡ at_edges (kept ++ with_true_condition e ∷ es)
-    settle_leaves = ap (with_vertices g) (with_place-behind (with_settled (length kept)) front w later ∙ ap (λ (x : List EventEdge). front ++ with_edges v x ∷ later) (with_place-behind with_true_condition kept e es))
+    settle_leaves = ap (with_vertices g) (with_place-after (with_settled (length kept)) front w later ∙ ap (λ (x : List EventEdge). front ++ with_edges v x ∷ later) (with_place-after with_true_condition kept e es))
 
     it_applies : (rule : EdgeRule) → edge_test rule g e ≡ true → applied h (application_by rule v.name (length kept + 1)) ≡ Some (at_edges (kept ++ (edges_instead rule e ++ es)))
     it_applies rules.Prune passes =
@@ -147,7 +147,7 @@ module _ (g : EventGraph) (front : List EventVertex) (v : EventVertex) (later : 
     first_here kept e es none ready passes =
         let vs = front ++ with_edges v (kept ++ e ∷ es) ∷ later in
         let place : first_edge test 0 vs ≡ Some (length front, length kept) =
-        first_edge-behind test 0 front (with_edges v (kept ++ e ∷ es)) later kept e es clean none refl passes ∙ ap (λ i. Some (i, length kept)) (let same : 0 + length front ≡ length front = omega arith in same) in
+        first_edge-after test 0 front (with_edges v (kept ++ e ∷ es)) later kept e es clean none refl passes ∙ ap (λ i. Some (i, length kept)) (let same : 0 + length front ≡ length front = omega arith in same) in
         is_first rule g vs (length front) (length kept) (all_ready (kept ++ e ∷ es) ready) place ∙ ap (λ (name : List ℕ). Some (application_by rule name (length kept + 1))) (name_there kept e es)
 
     -- what the edges after those that stay are to give

@@ -131,7 +131,7 @@ impl UnfinishedReduction {
             return Ok(false);
         }
         self.drop_listed(alloc, &vertices)?;
-        self.progress.known.keep_single_after_drop();
+        self.progress.facts.keep_single_after_drop();
         self.progress.pairs = KeptPairs::begin(alloc, &self.model)?;
         Ok(true)
     }
@@ -145,7 +145,7 @@ impl UnfinishedReduction {
         ensures left { OnOk result
             (graph_of self.new.model ≡ dropped (graph_of self.old.model) vertices.now) }
         ensures all { OnOk result (unreached (graph_of self.new.model) ≡ []) }
-        ensures known { self.new.progress ≡ self.old.progress }
+        ensures progress { self.new.progress ≡ self.old.progress }
     {
         dropping_keeps_the_meaning();
         note_drop(alloc, &self.model, &mut self.applications, vertices)?;
@@ -162,7 +162,7 @@ impl UnfinishedReduction {
         let progress = &mut self.progress;
         let Some((first, second)) = progress
             .pairs
-            .first_merge(&self.model, &mut progress.known, &mut progress.counts)
+            .first_merge(&self.model, &mut progress.facts, &mut progress.counts)
         else {
             return Ok(false);
         };
@@ -196,9 +196,9 @@ impl UnfinishedReduction {
         ensures { OnOk result (IsMerged first second self.old self.new) }
     {
         self.progress.all_reached = true;
-        let known = &mut self.progress.known;
+        let facts = &mut self.progress.facts;
         let left = SecondVertex::Stays;
-        merge_holding(alloc, &mut self.model, known, first, second, left)
+        merge_holding(alloc, &mut self.model, facts, first, second, left)
     }
 
     /// Merges these two, where the second one alone can't be reached then: it gives away what it does, and is dropped.
@@ -216,11 +216,11 @@ impl UnfinishedReduction {
         progress
             .pairs
             .note_drop_after_merge(&self.model, first, second);
-        let known = &mut progress.known;
+        let facts = &mut progress.facts;
         let left = SecondVertex::GivesAway;
-        merge_holding(alloc, &mut self.model, known, first, second, left)?;
+        merge_holding(alloc, &mut self.model, facts, first, second, left)?;
         note_drop(alloc, &self.model, &mut self.applications, &gone)?;
-        keep_after_drop(&self.model, &mut progress.known, gone.as_slice());
+        keep_after_drop(&self.model, &mut progress.facts, gone.as_slice());
         progress.all_reached = true;
         drop_unreached(alloc, &mut self.model, &gone)
     }

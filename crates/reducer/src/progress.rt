@@ -10,7 +10,7 @@ ghost use Rattle.merge_rules.specs.KeptPairs.{PairsAreRight};
 ghost use Rattle.reducer.specs.Inner.Progress.{AloneIsRight, IsProgress};
 
 use edge_pruning::merging_leaves_vertices_reached;
-use merge_rules::{FactsOfModel, KeptPairs};
+use merge_rules::{FactsOfModel, KeptPairs, new_counts_count_nothing};
 use model_core::Model;
 use sig_base::NoMemory;
 use std::alloc::Global;
@@ -19,7 +19,7 @@ use use_analysis::UseCounts;
 /// What is known of a model.
 #[derive(Drop)]
 pub(crate) struct Progress {
-    pub(crate) known: FactsOfModel,
+    pub(crate) facts: FactsOfModel,
     /// Nothing is counted here between two calls that use it.
     pub(crate) counts: UseCounts,
     /// Whether it is known that all vertices can be reached.
@@ -32,8 +32,9 @@ impl Progress {
     pub(crate) fn begin(alloc: Global, model: &Model) -> Result<Progress, NoMemory>
         ensures { IfOk result (λ progress. IsProgress (graph_of model.now) progress) }
     {
+        new_counts_count_nothing();
         Ok(Progress {
-            known: FactsOfModel::begin(alloc),
+            facts: FactsOfModel::begin(alloc),
             counts: UseCounts::begin(alloc, model)?,
             all_reached: false,
             pairs: KeptPairs::begin(alloc, model)?,

@@ -5,7 +5,7 @@ use Rattle.model_core.specs.EventGraph.{EventGraph, EventVertex}
 use Rattle.model_core.specs.Run.Step.{no_vertex, vertex_at}
 use Rattle.merge_rules.specs.Growth.{body_lines}
 use Rattle.merge_rules.specs.FactsOfModel.{LengthIsRight, BodiesAreRight}
-use Rattle.reduction_cert.specs.KnownWithout.{bodies_after_drop}
+use Rattle.reduction_cert.specs.FactsAfterDrop.{bodies_after_drop}
 
 -- ---- places of lists that lose one
 

@@ -1,8 +1,7 @@
 -- An application leaves no more variables than there were, so counts of uses that served before it serve after it.
-use Rattle.std.proofs.Common.{◌≡◌, ◌≤◌, ℕ, zero, suc, length, replicate, Option, Some, None, refl, sym, ap, subst, arith}
-use Rattle.std.specs.Prelude.{slice_index}
+use Rattle.std.proofs.Common.{◌≡◌, ◌≤◌, ℕ, length, Option, Some, None, sym, ap, subst, arith}
 use Rattle.std.specs.Option.{option_map_or}
-use Rattle.std.proofs.lemmas.List.{length-map, length-replicate}
+use Rattle.std.proofs.lemmas.List.{length-map}
 use Rattle.model_core.specs.declared.model.Model.{Model}
 use Rattle.model_core.specs.EventGraph.{EventGraph}
 use Rattle.model_core.specs.Code.Views.{graph_of, variable_of}
@@ -13,7 +12,7 @@ use Rattle.model_core.specs.Rules.Merge.{merged}
 use Rattle.model_core.specs.Rules.Slice.{sliced}
 use Rattle.model_core.specs.Rules.Reduction.{RuleApplication, Prune, Settle, Drop, Merge, Slice, edge_named, vertices_named, two_vertices_named, variables_named, result_of, applied}
 use Rattle.model_core.proofs.SomeOfAList.{some-few, some-marked_of}
-use Rattle.use_analysis.specs.UseNumbers.{UseNumbers, no_numbers}
+use Rattle.use_analysis.specs.UseNumbers.{UseNumbers}
 use Rattle.merge_rules.specs.NothingCounted.{NothingCounted}
 use Rattle.reduction_cert.proofs.Chains.{applied-is}
 
@@ -41,12 +40,3 @@ counts_serve m n before now few same nothing =
     let enough = nothing.enough in
     let fewer : length n.vars ≤ length m.vars = omega (arith, few, old, new) in
     subst (NothingCounted (length n.vars)) (sym same) (record { enough = omega (arith, fewer, enough); none = nothing.none })
-
--- counts that begin serve
-zero_there : (n v : ℕ) → slice_index (replicate n 0) v ≡ 0
-zero_there zero v = refl
-zero_there (suc n) zero = refl
-zero_there (suc n) (suc v) = zero_there n v
-
-pub counts_begin : (n : ℕ) (u : UseNumbers) → u ≡ no_numbers n → NothingCounted n u
-counts_begin n u is = subst (NothingCounted n) (sym is) (record { enough = (let long = length-replicate {A = ℕ} n 0 in omega (arith, long)); none = zero_there n })

@@ -5,7 +5,7 @@ pub mod PlacesByTable
 pub mod NamesKept
 mod OneMore
 pub mod FewerVariables
-pub mod ToldByRules
+pub mod RuleAnswers
 pub mod LengthLeft
 pub mod BodiesLeft
-pub mod SameBehindDrop
+pub mod SameAfterDrop

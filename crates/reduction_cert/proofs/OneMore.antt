@@ -47,9 +47,9 @@ module _ (g : EventGraph) (left : List RuleApplication) (is : left ≡ []) where
 
 -- ---- names
 
-put_behind : {B : Type 0} (found : List B) (y : B) (o : Option (List B)) → option_map (λ ys. found ++ ys) (option_and_then (λ ys. Some (y ∷ ys)) o) ≡ option_map (λ ys. (found ++ y ∷ []) ++ ys) o
-put_behind found y None = refl
-put_behind found y (Some ys) = ap Some (sym (append_assoc found (y ∷ []) ys))
+joined-put : {B : Type 0} (found : List B) (y : B) (o : Option (List B)) → option_map (λ ys. found ++ ys) (option_and_then (λ ys. Some (y ∷ ys)) o) ≡ option_map (λ ys. (found ++ y ∷ []) ++ ys) o
+joined-put found y None = refl
+joined-put found y (Some ys) = ap Some (sym (append_assoc found (y ∷ []) ys))
 
 module _ {A B : Type 0} (f : A → Option B) (left : List A) (found : List B) (whole : Option (List B)) (so_far : whole ≡ option_map (λ ys. found ++ ys) (each_numbered f left)) where
   -- the next one has a place, or it has none
@@ -58,7 +58,7 @@ module _ {A B : Type 0} (f : A → Option B) (left : List A) (found : List B) (w
       so_far
       ∙ ap (λ xs. option_map (λ ys. found ++ ys) (each_numbered f xs)) is
       ∙ ap (λ o. option_map (λ ys. found ++ ys) (option_and_then (λ y. option_and_then (λ ys. Some (y ∷ ys)) (each_numbered f later)) o)) at
-      ∙ put_behind found y (each_numbered f later)
+      ∙ joined-put found y (each_numbered f later)
 
   pub not_named : (x : A) (later : List A) → left ≡ x ∷ later → f x ≡ None → None ≡ whole
   not_named x later is at =

@@ -43,29 +43,29 @@ never_rejected : (b : Bool) (n : ℕ) → cond b Sound Differs ≡ Rejected n �
 never_rejected true n e = cc
 never_rejected false n e = cc
 
-sound_told : (bad : Option ℕ) (reached : Option EventGraph) (h : EventGraph) → verdict_on bad reached h ≡ Sound → reached ≡ Some h
-sound_told (Some n) reached h e = cc
-sound_told None None h e = cc
-sound_told None (Some k) h e = ap Some ((graphs_decide k h).0 (sound_if (same_graph k h) e))
+sound-reached : (bad : Option ℕ) (reached : Option EventGraph) (h : EventGraph) → verdict_on bad reached h ≡ Sound → reached ≡ Some h
+sound-reached (Some n) reached h e = cc
+sound-reached None None h e = cc
+sound-reached None (Some k) h e = ap Some ((graphs_decide k h).0 (sound_if (same_graph k h) e))
 
-differs_told : (bad : Option ℕ) (reached : Option EventGraph) (h : EventGraph) → verdict_on bad reached h ≡ Differs → (bad ≡ None) × (reached ≢ Some h)
-differs_told (Some n) reached h e = cc
-differs_told None None h e = (refl, λ same. cc)
-differs_told None (Some k) h e = (refl, λ same. let alike : k ≡ h = cc in let test : same_graph k h ≡ true = (graphs_decide k h).1 alike in let other : same_graph k h ≡ false = differs_if (same_graph k h) e in cc)
+differs-reached : (bad : Option ℕ) (reached : Option EventGraph) (h : EventGraph) → verdict_on bad reached h ≡ Differs → (bad ≡ None) × (reached ≢ Some h)
+differs-reached (Some n) reached h e = cc
+differs-reached None None h e = (refl, λ same. cc)
+differs-reached None (Some k) h e = (refl, λ same. let alike : k ≡ h = cc in let test : same_graph k h ≡ true = (graphs_decide k h).1 alike in let other : same_graph k h ≡ false = differs_if (same_graph k h) e in cc)
 
-rejected_told : (bad : Option ℕ) (reached : Option EventGraph) (h : EventGraph) (n : ℕ) → verdict_on bad reached h ≡ Rejected n → bad ≡ Some n
-rejected_told (Some k) reached h n e = cc
-rejected_told None reached h n e = absurd (never_rejected (option_eq same_graph reached (Some h)) n e)
+rejected-bad : (bad : Option ℕ) (reached : Option EventGraph) (h : EventGraph) (n : ℕ) → verdict_on bad reached h ≡ Rejected n → bad ≡ Some n
+rejected-bad (Some k) reached h n e = cc
+rejected-bad None reached h n e = absurd (never_rejected (option_eq same_graph reached (Some h)) n e)
 
 pub verdict-Sound : (g : EventGraph) (applications : List RuleApplication) (h : EventGraph) → (verdict g applications h ≡ Sound) ↔ Chain g applications h
 verdict-Sound g applications h = (
-  λ e. reached-chain g applications h (sound_told (first_bad g applications) (graph_reached g applications) h e),
+  λ e. reached-chain g applications h (sound-reached (first_bad g applications) (graph_reached g applications) h e),
   λ chain. of_chain g applications h h chain ∙ ap (λ b. cond b Sound Differs) ((graphs_decide h h).1 refl),
 )
 
 pub verdict-Rejected : (g : EventGraph) (applications : List RuleApplication) (h : EventGraph) (n : ℕ) → (verdict g applications h ≡ Rejected n) ↔ (first_bad g applications ≡ Some n)
 verdict-Rejected g applications h n = (
-  rejected_told (first_bad g applications) (graph_reached g applications) h n,
+  rejected-bad (first_bad g applications) (graph_reached g applications) h n,
   ap (λ bad. verdict_on bad (graph_reached g applications) h),
 )
 
@@ -76,7 +76,7 @@ unlike k h false e other = refl
 pub verdict-Differs : (g : EventGraph) (applications : List RuleApplication) (h : EventGraph) → (verdict g applications h ≡ Differs) ↔ ((k : EventGraph) × Chain g applications k × (k ≢ h))
 verdict-Differs g applications h = (
   λ e.
-      let (good, other) = differs_told (first_bad g applications) (graph_reached g applications) h e in
+      let (good, other) = differs-reached (first_bad g applications) (graph_reached g applications) h e in
       let (k, chain) = (first_bad-None g applications).0 good in
       (k, chain, λ same. other (chain-reached g applications k chain ∙ ap Some same)),
   λ (k, chain, other). of_chain g applications k h chain ∙ ap (λ b. cond b Sound Differs) (unlike k h (same_graph k h) refl other),
@@ -85,13 +85,13 @@ verdict-Differs g applications h = (
 -- ---- the code's test
 
 -- two graphs are equal exactly where their comparison says so
-pub told_by_parts : (r : Bool) (g h : EventGraph) → IsTrue r ↔ (g ≡ h) → same_graph g h ≡ r
-told_by_parts true g h (to, from) = (graphs_decide g h).1 (to refl)
-told_by_parts false g h (to, from) = unlike g h (same_graph g h) refl (λ same. let never : false ≡ true = from same in cc)
+pub same_graph-by_parts : (r : Bool) (g h : EventGraph) → IsTrue r ↔ (g ≡ h) → same_graph g h ≡ r
+same_graph-by_parts true g h (to, from) = (graphs_decide g h).1 (to refl)
+same_graph-by_parts false g h (to, from) = unlike g h (same_graph g h) refl (λ same. let never : false ≡ true = from same in cc)
 
 -- where no application was bad, the verdict on the original: the applications were read where they lie, and made on a copy
-pub told_at_end : (g copy : EventGraph) (applications read : List RuleApplication) (k h : EventGraph) (bad : Option ℕ) (r b : Bool) → copy ≡ g → read ≡ applications → bad ≡ None → bad ≡ first_bad copy read → graph_reached copy read ≡ Some k → IsTrue r ↔ (k ≡ h) → r ≡ b → cond b Sound Differs ≡ verdict g applications h
-told_at_end g copy applications read k h bad r b same listed none is reached test tells =
-    ap (λ b. cond b Sound Differs) (sym (told_by_parts r k h test ∙ tells))
+pub verdict-at_end : (g copy : EventGraph) (applications read : List RuleApplication) (k h : EventGraph) (bad : Option ℕ) (r b : Bool) → copy ≡ g → read ≡ applications → bad ≡ None → bad ≡ first_bad copy read → graph_reached copy read ≡ Some k → IsTrue r ↔ (k ≡ h) → r ≡ b → cond b Sound Differs ≡ verdict g applications h
+verdict-at_end g copy applications read k h bad r b same listed none is reached test same_answer =
+    ap (λ b. cond b Sound Differs) (sym (same_graph-by_parts r k h test ∙ same_answer))
     ∙ ap₂ (λ bad reached. verdict_on bad reached h) (sym none ∙ is) (sym reached)
     ∙ ap₂ (λ g applications. verdict g applications h) same listed

@@ -1,4 +1,4 @@
 pub mod VerdictView
 pub mod Inner
-pub mod KnownWithout
+pub mod FactsAfterDrop
 pub mod EdgeApplications

@@ -22,6 +22,7 @@ use edge_pruning::{
 };
 use merge_rules::{
     FactsOfModel, SecondVertex, keep_after_prune, keep_after_settle, merge_measured,
+    new_counts_count_nothing,
 };
 use model_core::{Application, Model, copy_model, same_model, was_made};
 use model_read::Places;
@@ -94,14 +95,15 @@ fn apply_all(
         ≡ Some (graph_of model.new) }
 {
     applications_add_no_variables();
+    new_counts_count_nothing();
     let mut vertices = Places::of_vertices(alloc, model.vertices.as_slice())?;
     let mut counts = UseCounts::begin(alloc, model)?;
-    let mut known = FactsOfModel::begin(alloc);
+    let mut facts = FactsOfModel::begin(alloc);
     for (place, application) in applications.iter().enumerate() {
         if !apply_with_next(
             alloc,
             model,
-            &mut known,
+            &mut facts,
             &mut counts,
             &vertices,
             application,
@@ -155,7 +157,7 @@ fn find_places_anew(
 fn apply_with_next(
     alloc: Global,
     model: &mut Model,
-    known: &mut FactsOfModel,
+    facts: &mut FactsOfModel,
     counts: &mut UseCounts,
     vertices: &Places,
     application: &Application,
@@ -163,12 +165,12 @@ fn apply_with_next(
     next: usize,
 ) -> Result<bool, NoMemory>
     requires listed { HasPlaces (names_of_vertices (graph_of model.old).vertices) vertices.now }
-    requires known { FactsAreRight (graph_of model.old) known.old }
+    requires facts { FactsAreRight (graph_of model.old) facts.old }
     requires counts { NothingCounted (length model.old.vars) counts.old }
     ensures made { IfOk result
         (λ made. MadeInEffect (map application_of (drop next applications.now))
         (graph_of model.old) (application_of application.now) made (graph_of model.new)) }
-    ensures known { OnOk result (FactsAreRight (graph_of model.new) known.new) }
+    ensures facts { OnOk result (FactsAreRight (graph_of model.new) facts.new) }
     ensures counts { OnOk result (counts.new ≡ counts.old) }
 {
     dropping_takes_no_notice_of_the_vertex();
@@ -176,11 +178,11 @@ fn apply_with_next(
         if drops_alone(applications, next, target) {
             let second = SecondVertex::GivesAway;
             return apply_merge(
-                alloc, model, known, counts, vertices, vertex, target, second,
+                alloc, model, facts, counts, vertices, vertex, target, second,
             );
         }
     }
-    apply(alloc, model, known, counts, vertices, application)
+    apply(alloc, model, facts, counts, vertices, application)
 }
 
 /// Makes one application, and says whether it names what the model has and meets the conditions of its rule. Beside the
@@ -188,51 +190,51 @@ fn apply_with_next(
 fn apply(
     alloc: Global,
     model: &mut Model,
-    known: &mut FactsOfModel,
+    facts: &mut FactsOfModel,
     counts: &mut UseCounts,
     vertices: &Places,
     application: &Application,
 ) -> Result<bool, NoMemory>
     requires listed { HasPlaces (names_of_vertices (graph_of model.old).vertices) vertices.now }
-    requires known { FactsAreRight (graph_of model.old) known.old }
+    requires facts { FactsAreRight (graph_of model.old) facts.old }
     requires counts { NothingCounted (length model.old.vars) counts.old }
     ensures made { IfOk result
         (λ made. applied (graph_of model.old) (application_of application.now)
         ≡ cond made (Some (graph_of model.new)) None) }
-    ensures known { OnOk result (FactsAreRight (graph_of model.new) known.new) }
+    ensures facts { OnOk result (FactsAreRight (graph_of model.new) facts.new) }
     ensures counts { OnOk result (counts.new ≡ counts.old) }
 {
     match application {
         Application::Prune { vertex, edge } => {
-            Ok(apply_to_edge(model, known, vertices, EdgeRule::Prune, vertex, *edge))
+            Ok(apply_to_edge(model, facts, vertices, EdgeRule::Prune, vertex, *edge))
         }
         Application::Settle { vertex, edge } => {
-            Ok(apply_to_edge(model, known, vertices, EdgeRule::Settle, vertex, *edge))
+            Ok(apply_to_edge(model, facts, vertices, EdgeRule::Settle, vertex, *edge))
         }
         Application::Drop { vertices: names } => {
-            apply_drop(alloc, model, known, vertices, names.as_slice())
+            apply_drop(alloc, model, facts, vertices, names.as_slice())
         }
         Application::Merge { vertex, target } => {
             let second = SecondVertex::Stays;
             apply_merge(
-                alloc, model, known, counts, vertices, vertex, target, second,
+                alloc, model, facts, counts, vertices, vertex, target, second,
             )
         }
         Application::Slice { vars } => {
-            *known = FactsOfModel::begin(alloc);
+            *facts = FactsOfModel::begin(alloc);
             apply_slice(alloc, model, vars.as_slice())
         }
     }
 }
 
 /// Keeps what is known of a rule's result, where the rule was made. Where it wasn't, nothing is known any more.
-fn keep_facts_if_made(known: &mut FactsOfModel, made: bool) -> bool
+fn keep_facts_if_made(facts: &mut FactsOfModel, made: bool) -> bool
     ensures is { result ≡ made }
-    ensures kept { made ≡ true → known.new ≡ known.old }
-    ensures forgotten { made ≡ false → (g : EventGraph) → FactsAreRight g known.new }
+    ensures kept { made ≡ true → facts.new ≡ facts.old }
+    ensures forgotten { made ≡ false → (g : EventGraph) → FactsAreRight g facts.new }
 {
     if !made {
-        *known = FactsOfModel::nothing();
+        *facts = FactsOfModel::nothing();
     }
     made
 }
@@ -240,31 +242,31 @@ fn keep_facts_if_made(known: &mut FactsOfModel, made: bool) -> bool
 /// Applies a rule of edges to an edge, and says whether it could be.
 fn apply_to_edge(
     model: &mut Model,
-    known: &mut FactsOfModel,
+    facts: &mut FactsOfModel,
     vertices: &Places,
     rule: EdgeRule,
     vertex: &Name,
     edge: u64,
 ) -> bool
     requires listed { HasPlaces (names_of_vertices (graph_of model.old).vertices) vertices.now }
-    requires known { FactsAreRight (graph_of model.old) known.old }
+    requires facts { FactsAreRight (graph_of model.old) facts.old }
     ensures made { applied (graph_of model.old) (application_by rule vertex.now edge)
         ≡ cond result (Some (graph_of model.new)) None }
-    ensures known { FactsAreRight (graph_of model.new) known.new }
+    ensures facts { FactsAreRight (graph_of model.new) facts.new }
 {
     let Some((vertex, edge)) = edge_named(vertices, vertex, edge) else {
         return false;
     };
     match rule {
         EdgeRule::Prune => {
-            keep_after_prune(model, known, vertex, edge);
+            keep_after_prune(model, facts, vertex, edge);
             let pruned = prune(model, vertex, edge);
-            keep_facts_if_made(known, pruned.is_ok())
+            keep_facts_if_made(facts, pruned.is_ok())
         }
         EdgeRule::Settle => {
-            keep_after_settle(model, known, vertex, edge);
+            keep_after_settle(model, facts, vertex, edge);
             let settled = settle(model, vertex, edge);
-            keep_facts_if_made(known, settled.is_ok())
+            keep_facts_if_made(facts, settled.is_ok())
         }
     }
 }
@@ -273,30 +275,30 @@ fn apply_to_edge(
 fn apply_drop(
     alloc: Global,
     model: &mut Model,
-    known: &mut FactsOfModel,
+    facts: &mut FactsOfModel,
     vertices: &Places,
     names: &[Name],
 ) -> Result<bool, NoMemory>
     requires listed { HasPlaces (names_of_vertices (graph_of model.old).vertices) vertices.now }
-    requires known { FactsAreRight (graph_of model.old) known.old }
+    requires facts { FactsAreRight (graph_of model.old) facts.old }
     ensures made { IfOk result
         (λ made. applied (graph_of model.old) (Drop names.now)
         ≡ cond made (Some (graph_of model.new)) None) }
-    ensures known { OnOk result (FactsAreRight (graph_of model.new) known.new) }
+    ensures facts { OnOk result (FactsAreRight (graph_of model.new) facts.new) }
 {
     let Some(dropped) = all_named(alloc, vertices, names)? else {
         return Ok(false);
     };
-    keep_after_drop(model, known, dropped.as_slice());
+    keep_after_drop(model, facts, dropped.as_slice());
     let made = was_made(drop_vertices(alloc, model, &dropped))?;
-    Ok(keep_facts_if_made(known, made))
+    Ok(keep_facts_if_made(facts, made))
 }
 
 /// Merges two vertices, leaving this of the second one, and says whether they could be.
 fn apply_merge(
     alloc: Global,
     model: &mut Model,
-    known: &mut FactsOfModel,
+    facts: &mut FactsOfModel,
     counts: &mut UseCounts,
     vertices: &Places,
     vertex: &Name,
@@ -304,18 +306,18 @@ fn apply_merge(
     second: SecondVertex,
 ) -> Result<bool, NoMemory>
     requires listed { HasPlaces (names_of_vertices (graph_of model.old).vertices) vertices.now }
-    requires known { FactsAreRight (graph_of model.old) known.old }
+    requires facts { FactsAreRight (graph_of model.old) facts.old }
     requires counts { NothingCounted (length model.old.vars) counts.old }
     ensures made { IfOk result
         (λ made. MergeIsMade second (graph_of model.old) vertex.now target.now made
         (graph_of model.new)) }
-    ensures known { OnOk result (FactsAreRight (graph_of model.new) known.new) }
+    ensures facts { OnOk result (FactsAreRight (graph_of model.new) facts.new) }
     ensures counts { OnOk result (counts.new ≡ counts.old) }
 {
     let Some((vertex, target)) = two_vertices_named(vertices, vertex, target) else {
         return Ok(false);
     };
-    was_made(merge_measured(alloc, model, known, counts, vertex, target, second))
+    was_made(merge_measured(alloc, model, facts, counts, vertex, target, second))
 }
 
 /// Slices variables away, and says whether they could be.

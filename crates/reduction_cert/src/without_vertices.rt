@@ -2,18 +2,16 @@
 //! known of it with them; and, where one vertex alone is dropped, how long the lines of what the others do are.
 
 ghost use Rattle.std.specs.Prelude.{◌≡◌, None, length, map};
-ghost use Rattle.std.specs.List.{flat_map, list_any};
-ghost use Rattle.std.specs.Option.{IfSome};
+ghost use Rattle.std.specs.List.{list_any};
 ghost use Rattle.model_core.specs.EventGraph.{EventGraph};
 ghost use Rattle.model_core.specs.Run.Step.{vertex_at};
-ghost use Rattle.model_core.specs.Text.Canonical.{vertex_lines};
 ghost use Rattle.model_core.specs.Text.VersionNeeded.{has_later_parts};
 ghost use Rattle.model_core.specs.Rules.Conditions.{first_failed};
 ghost use Rattle.model_core.specs.Rules.Drop.{drop_conditions, dropped};
 ghost use Rattle.model_core.specs.Code.Views.{graph_of};
 ghost use Rattle.merge_rules.specs.FactsOfModel.{LinesAreRight, VersionIsRight, BodiesAreRight, FactsAreRight};
-ghost use Rattle.merge_rules.specs.KnownLess.{still_single};
-ghost use Rattle.reduction_cert.specs.KnownWithout.{version_without, bodies_after_drop};
+ghost use Rattle.merge_rules.specs.FactsAfterEdge.{still_single};
+ghost use Rattle.reduction_cert.specs.FactsAfterDrop.{bytes_with_vertex, bytes_with_vertices, lines_without, version_without, bodies_after_drop};
 
 use edge_pruning::{dropping_one_leaves_lines, dropping_takes_lines};
 use merge_rules::{Bodies, FactsOfModel};
@@ -21,21 +19,26 @@ use model_core::{Model, one_has_later_parts};
 use model_print::vertex_length;
 use std::slice::from_ref;
 
+/// So many bytes with those of the lines of the vertex at this place, or None where it has no vertex or they are too many to
+/// count.
+fn bytes_with_vertex(model: &Model, bytes: u64, place: usize) -> Option<u64>
+    ensures { result ≡ bytes_with_vertex (graph_of model.now) bytes place }
+{
+    let lines = vertex_length(model.vertices.as_slice().get(place)?, model);
+    if lines == u64::MAX {
+        return None;
+    }
+    bytes.checked_add(lines)
+}
+
 /// How many bytes the lines of the vertices at these places have, or None where a place has no vertex or they are too many to
 /// count.
 fn lines_length(model: &Model, vertices: &[usize]) -> Option<u64>
-    ensures { IfSome result
-        (λ bytes. bytes
-        ≡ length (flat_map
-        (λ k. vertex_lines (graph_of model.now) (vertex_at (graph_of model.now) k)) vertices.now)) }
+    ensures { result ≡ bytes_with_vertices (graph_of model.now) 0 vertices.now }
 {
     let mut bytes: u64 = 0;
     for place in vertices {
-        let lines = vertex_length(model.vertices.as_slice().get(*place)?, model);
-        if lines == u64::MAX {
-            return None;
-        }
-        bytes = bytes.checked_add(lines)?;
+        bytes = bytes_with_vertex(model, bytes, *place)?;
     }
     Some(bytes)
 }
@@ -66,7 +69,8 @@ fn one_is_later(model: &Model, vertices: &[usize]) -> bool
 /// How many bytes are left of so many without these vertices' lines, or None where that isn't known.
 fn lines_without(model: &Model, lines: Option<u64>, vertices: &[usize]) -> Option<u64>
     requires { LinesAreRight (graph_of model.now) lines }
-    ensures { first_failed (drop_conditions (graph_of model.now) vertices.now) ≡ None
+    ensures is { result ≡ lines_without (graph_of model.now) lines vertices.now }
+    ensures right { first_failed (drop_conditions (graph_of model.now) vertices.now) ≡ None
         → LinesAreRight (dropped (graph_of model.now) vertices.now) result }
 {
     dropping_takes_lines();
@@ -78,7 +82,7 @@ fn lines_without(model: &Model, lines: Option<u64>, vertices: &[usize]) -> Optio
 fn version_without(model: &Model, version_two: Option<bool>, vertices: &[usize]) -> Option<bool>
     requires { VersionIsRight (graph_of model.now) version_two }
     ensures is { result ≡ version_without (graph_of model.now) version_two vertices.now }
-    ensures tells { first_failed (drop_conditions (graph_of model.now) vertices.now) ≡ None
+    ensures right { first_failed (drop_conditions (graph_of model.now) vertices.now) ≡ None
         → VersionIsRight (dropped (graph_of model.now) vertices.now) result }
 {
     dropping_takes_lines();
@@ -104,17 +108,19 @@ fn keep_bodies_without(bodies: &mut Bodies, vertices: &[usize])
 }
 
 /// Turns what is known of a model into what is known after a drop of these vertices. It is called before the drop.
-pub fn keep_after_drop(model: &Model, known: &mut FactsOfModel, vertices: &[usize])
-    requires known { FactsAreRight (graph_of model.now) known.old }
-    ensures single { known.new.single ≡ still_single known.old.single }
-    ensures version { known.new.version_two
-        ≡ version_without (graph_of model.now) known.old.version_two vertices.now }
-    ensures bodies { known.new.bodies ≡ bodies_after_drop known.old.bodies vertices.now }
-    ensures known { first_failed (drop_conditions (graph_of model.now) vertices.now) ≡ None
-        → FactsAreRight (dropped (graph_of model.now) vertices.now) known.new }
+pub fn keep_after_drop(model: &Model, facts: &mut FactsOfModel, vertices: &[usize])
+    requires facts { FactsAreRight (graph_of model.now) facts.old }
+    ensures lines { facts.new.lines
+        ≡ lines_without (graph_of model.now) facts.old.lines vertices.now }
+    ensures single { facts.new.single ≡ still_single facts.old.single }
+    ensures version { facts.new.version_two
+        ≡ version_without (graph_of model.now) facts.old.version_two vertices.now }
+    ensures bodies { facts.new.bodies ≡ bodies_after_drop facts.old.bodies vertices.now }
+    ensures facts { first_failed (drop_conditions (graph_of model.now) vertices.now) ≡ None
+        → FactsAreRight (dropped (graph_of model.now) vertices.now) facts.new }
 {
-    known.single = known.single_without_parts();
-    known.lines = lines_without(model, known.lines, vertices);
-    known.version_two = version_without(model, known.version_two, vertices);
-    keep_bodies_without(&mut known.bodies, vertices);
+    facts.single = facts.single_without_parts();
+    facts.lines = lines_without(model, facts.lines, vertices);
+    facts.version_two = version_without(model, facts.version_two, vertices);
+    keep_bodies_without(&mut facts.bodies, vertices);
 }

@@ -138,26 +138,26 @@ end
 
 /// Merges the first two vertices of a model, and gives what is known of the result.
 fn merged_and_measured(alloc: Global, model: &mut Model) -> Result<FactsOfModel, RuleError>
-    ensures { IfOk result (λ known. FactsAreRight (graph_of model.new) known) }
+    ensures { IfOk result (λ facts. FactsAreRight (graph_of model.new) facts) }
 {
-    let mut known = FactsOfModel::begin(alloc);
+    let mut facts = FactsOfModel::begin(alloc);
     let mut counts = UseCounts::begin(alloc, model)?;
     let second = SecondVertex::Stays;
-    merge_measured(alloc, model, &mut known, &mut counts, 0, 1, second)?;
-    Ok(known)
+    merge_measured(alloc, model, &mut facts, &mut counts, 0, 1, second)?;
+    Ok(facts)
 }
 
 /// Whether it is known how many bytes the text of the model has, and those of the lines of what its
 /// first vertex does.
-fn has_lengths(known: &FactsOfModel, model: &Model, body: u64) -> bool {
-    known.text_length() == Some(printed_length(model)) && known.bodies.get(0) == Some(body)
+fn has_lengths(facts: &FactsOfModel, model: &Model, body: u64) -> bool {
+    facts.text_length() == Some(printed_length(model)) && facts.bodies.get(0) == Some(body)
 }
 
 #[test]
 fn a_merged_model_is_written(rt: HostRuntime) -> Result<(), Fail> {
     let mut model = model_of_text(rt.alloc(), BEFORE)?;
-    let known = merged_and_measured(rt.alloc(), &mut model).map_err(|_| NoMemory)?;
-    assert!(rt; has_lengths(&known, &model, 105) && known.bodies.get(1) == Some(39));
+    let facts = merged_and_measured(rt.alloc(), &mut model).map_err(|_| NoMemory)?;
+    assert!(rt; has_lengths(&facts, &model, 105) && facts.bodies.get(1) == Some(39));
     assert!(rt; print(rt.alloc(), &model)?.as_slice() == AFTER);
     Ok(())
 }
@@ -168,21 +168,21 @@ const TWO_TESTS: &[u8] =
 #[test]
 fn lengths_stay_known_after_a_prune(rt: HostRuntime) -> Result<(), Fail> {
     let mut model = model_of_text(rt.alloc(), TWO_TESTS)?;
-    let mut known = merged_and_measured(rt.alloc(), &mut model).map_err(|_| NoMemory)?;
-    assert!(rt; has_lengths(&known, &model, 83));
-    keep_after_prune(&model, &mut known, 0, 0);
+    let mut facts = merged_and_measured(rt.alloc(), &mut model).map_err(|_| NoMemory)?;
+    assert!(rt; has_lengths(&facts, &model, 83));
+    keep_after_prune(&model, &mut facts, 0, 0);
     assert!(rt; prune(&mut model, 0, 0).is_ok());
-    assert!(rt; has_lengths(&known, &model, 50));
+    assert!(rt; has_lengths(&facts, &model, 50));
     Ok(())
 }
 
 #[test]
 fn lengths_stay_known_after_a_settle(rt: HostRuntime) -> Result<(), Fail> {
     let mut model = model_of_text(rt.alloc(), TWO_TESTS)?;
-    let mut known = merged_and_measured(rt.alloc(), &mut model).map_err(|_| NoMemory)?;
-    keep_after_settle(&model, &mut known, 0, 1);
+    let mut facts = merged_and_measured(rt.alloc(), &mut model).map_err(|_| NoMemory)?;
+    keep_after_settle(&model, &mut facts, 0, 1);
     assert!(rt; settle(&mut model, 0, 1).is_ok());
-    assert!(rt; has_lengths(&known, &model, 71));
+    assert!(rt; has_lengths(&facts, &model, 71));
     Ok(())
 }
 
@@ -197,9 +197,9 @@ fn single_after_settle(
     edge: usize,
 ) -> Result<Option<bool>, RuleError> {
     let mut model = model_of_text(alloc, FOUR_URGENT)?;
-    let mut known = merged_and_measured(alloc, &mut model)?;
-    keep_after_settle(&model, &mut known, vertex, edge);
-    Ok(known.single)
+    let mut facts = merged_and_measured(alloc, &mut model)?;
+    keep_after_settle(&model, &mut facts, vertex, edge);
+    Ok(facts.single)
 }
 
 #[test]
@@ -221,13 +221,13 @@ const THREE_URGENT: &[u8] =
 /// the first one, or after a drop of the vertex that was merged.
 fn single_after(alloc: Global, drops: bool) -> Result<Option<bool>, RuleError> {
     let mut model = model_of_text(alloc, THREE_URGENT)?;
-    let mut known = merged_and_measured(alloc, &mut model)?;
+    let mut facts = merged_and_measured(alloc, &mut model)?;
     if drops {
-        keep_after_drop(&model, &mut known, &[1]);
+        keep_after_drop(&model, &mut facts, &[1]);
     } else {
-        keep_after_prune(&model, &mut known, 2, 0);
+        keep_after_prune(&model, &mut facts, 2, 0);
     }
-    Ok(known.single)
+    Ok(facts.single)
 }
 
 #[test]
@@ -241,12 +241,12 @@ fn a_model_without_a_part_takes_at_most_one_edge_at_once(rt: HostRuntime) {
 /// merged, if one is known.
 fn length_after_drop(alloc: Global) -> Result<Option<u64>, RuleError> {
     let mut model = model_of_text(alloc, THREE_URGENT)?;
-    let mut known = merged_and_measured(alloc, &mut model)?;
+    let mut facts = merged_and_measured(alloc, &mut model)?;
     let gone = List::of_one(alloc, 1)?;
-    keep_after_drop(&model, &mut known, gone.as_slice());
+    keep_after_drop(&model, &mut facts, gone.as_slice());
     drop_vertices(alloc, &mut model, &gone)?;
     let length = printed_length(&model);
-    Ok(known.text_length().map(|known| length.abs_diff(known)))
+    Ok(facts.text_length().map(|bytes| length.abs_diff(bytes)))
 }
 
 #[test]
@@ -264,25 +264,25 @@ fn version_after_prune(
     edge: usize,
 ) -> Result<(Option<bool>, Option<u64>), RuleError> {
     let mut model = model_of_text(alloc, TWO_DRAWN_DELAYS)?;
-    let mut known = merged_and_measured(alloc, &mut model)?;
-    keep_after_prune(&model, &mut known, 2, edge);
+    let mut facts = merged_and_measured(alloc, &mut model)?;
+    keep_after_prune(&model, &mut facts, 2, edge);
     if prune(&mut model, 2, edge).is_err() {
         return Err(RuleError::NoMemory);
     }
     let length = printed_length(&model);
     Ok((
-        known.version_two,
-        known.text_length().map(|known| length.abs_diff(known)),
+        facts.version_two,
+        facts.text_length().map(|bytes| length.abs_diff(bytes)),
     ))
 }
 
 #[test]
 fn a_version_stays_known_after_a_prune(rt: HostRuntime) {
-    for (edge, known) in [
+    for (edge, wanted) in [
         (1, (Some(true), Some(0))),
         // An edge that draws its delay may have been all that needs version 2.
         (2, (None, None)),
     ] {
-        assert_eq!(rt; version_after_prune(rt.alloc(), edge), Ok(known));
+        assert_eq!(rt; version_after_prune(rt.alloc(), edge), Ok(wanted));
     }
 }

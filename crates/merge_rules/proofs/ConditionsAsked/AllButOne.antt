@@ -7,8 +7,8 @@ use Rattle.std.specs.List.{remove}
 next_place : (k : ℕ) → suc k ≡ k + 1
 next_place k = omega arith
 
-pub both_told : (a b x y : Bool) → x ≡ a → x ≡ true → y ≡ b → y ≡ (a && b)
-both_told a b x y is holds so = so ∙ ap (λ c. c && b) (sym holds ∙ is)
+pub second-both : (a b x y : Bool) → x ≡ a → x ≡ true → y ≡ b → y ≡ (a && b)
+second-both a b x y is holds so = so ∙ ap (λ c. c && b) (sym holds ∙ is)
 
 pub first_fails : (a b x : Bool) → x ≡ a → x ≡ false → x ≡ (a && b)
 first_fails a b x is fails = fails ∙ ap (λ c. c && b) (sym fails ∙ is)

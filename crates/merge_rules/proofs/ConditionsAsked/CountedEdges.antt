@@ -107,18 +107,18 @@ uncounted_there (e ∷ es) ns v below enough =
     omega (arith, later, here, split)
 
 -- edges before a place and after it are counted, and then taken away in the same order
-module _ (before behind : List EventEdge) (ns : List ℕ) where
+module _ (before after : List EventEdge) (ns : List ℕ) where
   abbrev pub all_counted : List ℕ
-  all_counted = counted behind (counted before ns)
+  all_counted = counted after (counted before ns)
 
   pub length_all : length all_counted ≡ length ns
-  length_all = length_counted behind (counted before ns) ∙ length_counted before ns
+  length_all = length_counted after (counted before ns) ∙ length_counted before ns
 
-  pub all_there : (v : ℕ) → v < length ns → slice_index all_counted v ≡ slice_index ns v + count_by (reads_it v) before + count_by (reads_it v) behind
+  pub all_there : (v : ℕ) → v < length ns → slice_index all_counted v ≡ slice_index ns v + count_by (reads_it v) before + count_by (reads_it v) after
   all_there v below =
       let first = counted_there before ns v below in
       let long = length_counted before ns in
-      let then_those = counted_there behind (counted before ns) v (omega (arith, long, below)) in
+      let then_those = counted_there after (counted before ns) v (omega (arith, long, below)) in
       omega (arith, first, then_those)
 
   pub enough_before : (v : ℕ) → v < length all_counted → count_by (reads_it v) before ≤ slice_index all_counted v
@@ -130,22 +130,22 @@ module _ (before behind : List EventEdge) (ns : List ℕ) where
   length_half : length half_counted ≡ length ns
   length_half = length_uncounted before all_counted ∙ length_all
 
-  half_there : (v : ℕ) → v < length ns → slice_index half_counted v ≡ slice_index ns v + count_by (reads_it v) behind
+  half_there : (v : ℕ) → v < length ns → slice_index half_counted v ≡ slice_index ns v + count_by (reads_it v) after
   half_there v below =
       let long = length_all in
       let there = all_there v below in
       let taken = uncounted_there before all_counted v (omega (arith, long, below)) (omega (arith, there)) in
       omega (arith, there, taken)
 
-  pub enough_behind : (v : ℕ) → v < length half_counted → count_by (reads_it v) behind ≤ slice_index half_counted v
-  enough_behind v below = let long = length_half in let there = half_there v (omega (arith, long, below)) in omega (arith, there)
+  pub enough_after : (v : ℕ) → v < length half_counted → count_by (reads_it v) after ≤ slice_index half_counted v
+  enough_after v below = let long = length_half in let there = half_there v (omega (arith, long, below)) in omega (arith, there)
 
-  pub back_again : uncounted behind half_counted ≡ ns
-  back_again = ext_get_or 0 (uncounted behind half_counted) ns (length_uncounted behind half_counted ∙ length_half) (λ v below.
+  pub back_again : uncounted after half_counted ≡ ns
+  back_again = ext_get_or 0 (uncounted after half_counted) ns (length_uncounted after half_counted ∙ length_half) (λ v below.
       let long = length_half in
-      let whole = length_uncounted behind half_counted in
+      let whole = length_uncounted after half_counted in
       let there = half_there v (omega (arith, long, whole, below)) in
-      let taken = uncounted_there behind half_counted v (omega (arith, whole, below)) (omega (arith, there)) in
+      let taken = uncounted_there after half_counted v (omega (arith, whole, below)) (omega (arith, there)) in
       omega (arith, there, taken))
 
 -- ---- what the numbers say
@@ -157,9 +157,9 @@ some_counted v (e ∷ es) = ap (nat_lt 0) (sum_by-cons (counts v) e es) ∙ one 
   one true n later is = grind (arith, nat_tests)
   one false n later is = ap (nat_lt 0) (omega arith) ∙ is
 
-some_of_two : (v : ℕ) (before behind : List EventEdge) (n m : ℕ) → n ≡ 0 → m ≡ n + count_by (reads_it v) before + count_by (reads_it v) behind → nat_lt 0 m ≡ (list_any (reads_it v) before || list_any (reads_it v) behind)
-some_of_two v before behind n m none is =
-    two (count_by (reads_it v) before) (count_by (reads_it v) behind) m (omega (arith, none, is)) ∙ ap₂ (λ a b. a || b) (some_counted v before) (some_counted v behind) where
+some_of_two : (v : ℕ) (before after : List EventEdge) (n m : ℕ) → n ≡ 0 → m ≡ n + count_by (reads_it v) before + count_by (reads_it v) after → nat_lt 0 m ≡ (list_any (reads_it v) before || list_any (reads_it v) after)
+some_of_two v before after n m none is =
+    two (count_by (reads_it v) before) (count_by (reads_it v) after) m (omega (arith, none, is)) ∙ ap₂ (λ a b. a || b) (some_counted v before) (some_counted v after) where
       two : (a b m : ℕ) → m ≡ a + b → nat_lt 0 m ≡ (nat_lt 0 a || nat_lt 0 b)
       two a b m is = grind (arith, nat_tests)
 
@@ -185,19 +185,19 @@ swapped : (vs : List ℕ) (es : List EventEdge) → list_any (λ v. list_any (re
 swapped vs [] = none_asked vs
 swapped vs (e ∷ es) = either (λ v. reads_it v e) (λ v. list_any (reads_it v) es) vs ∙ ap (λ b. list_any (is_among (edge_reads e)) vs || b) (swapped vs es)
 
-module _ (variables : ℕ) (before behind : List EventEdge) (ns : List ℕ) (many : variables ≤ length ns) (none : (v : ℕ) → slice_index ns v ≡ 0) where
-  told_there : (v : ℕ) → is_read_by_counts variables (all_counted before behind ns) before behind v ≡ list_any (reads_it v) (before ++ behind)
-  told_there v = by_place (list_any (reads_it v) before || list_any (reads_it v) behind) refl (nat_lt v variables) refl ∙ sym (list_any-append (reads_it v) before behind) where
-    by_place : (walked : Bool) → (list_any (reads_it v) before || list_any (reads_it v) behind) ≡ walked → (b : Bool) → nat_lt v variables ≡ b → cond (nat_lt v variables) (nat_lt 0 (slice_index (all_counted before behind ns) v)) walked ≡ walked
-    by_place walked told true is =
+module _ (variables : ℕ) (before after : List EventEdge) (ns : List ℕ) (many : variables ≤ length ns) (none : (v : ℕ) → slice_index ns v ≡ 0) where
+  by_counts-there : (v : ℕ) → is_read_by_counts variables (all_counted before after ns) before after v ≡ list_any (reads_it v) (before ++ after)
+  by_counts-there v = by_place (list_any (reads_it v) before || list_any (reads_it v) after) refl (nat_lt v variables) refl ∙ sym (list_any-append (reads_it v) before after) where
+    by_place : (walked : Bool) → (list_any (reads_it v) before || list_any (reads_it v) after) ≡ walked → (b : Bool) → nat_lt v variables ≡ b → cond (nat_lt v variables) (nat_lt 0 (slice_index (all_counted before after ns) v)) walked ≡ walked
+    by_place walked is_walked true is =
         let below = is_below v variables is in
-        ap (λ b. cond b (nat_lt 0 (slice_index (all_counted before behind ns) v)) walked) is
-        ∙ some_of_two v before behind (slice_index ns v) (slice_index (all_counted before behind ns) v) (none v) (all_there before behind ns v (omega (arith, below, many)))
-        ∙ told
-    by_place walked told false is = ap (λ b. cond b (nat_lt 0 (slice_index (all_counted before behind ns) v)) walked) is
+        ap (λ b. cond b (nat_lt 0 (slice_index (all_counted before after ns) v)) walked) is
+        ∙ some_of_two v before after (slice_index ns v) (slice_index (all_counted before after ns) v) (none v) (all_there before after ns v (omega (arith, below, many)))
+        ∙ is_walked
+    by_place walked is_walked false is = ap (λ b. cond b (nat_lt 0 (slice_index (all_counted before after ns) v)) walked) is
 
-  pub counts_tell : (writes : List ℕ) → list_any (is_read_by_counts variables (all_counted before behind ns) before behind) writes ≡ list_any (reads_one_of writes) (before ++ behind)
-  counts_tell writes = any_alike _ _ told_there writes ∙ swapped writes (before ++ behind)
+  pub by_counts-reads : (writes : List ℕ) → list_any (is_read_by_counts variables (all_counted before after ns) before after) writes ≡ list_any (reads_one_of writes) (before ++ after)
+  by_counts-reads writes = any_alike _ _ by_counts-there writes ∙ swapped writes (before ++ after)
 
 -- ---- one edge more of the code's
 

@@ -5,6 +5,7 @@ use Rattle.std.specs.Prelude.{is_none, is_some, filter_map}
 use Rattle.std.specs.List.{range_with_len, cons_option}
 use Rattle.std.specs.Option.{option_map_or, option_or}
 use Rattle.sig_base.specs.declared.limits.TheConstants.{TEXT_MAX}
+use Rattle.sig_base.proofs.Lists.{places_from, no_places_from}
 use Rattle.model_core.specs.EventGraph.{EventGraph, EventEdge}
 use Rattle.model_core.specs.Run.Step.{vertex_at}
 use Rattle.model_core.specs.Text.Canonical.{canonical}
@@ -49,20 +50,20 @@ module _ (g : EventGraph) (first second : ℕ) where
   abbrev pair : Option EventEdge → Option (ℕ × ℕ)
   pair o = option_map_or (λ (e : EventEdge). cond (is_none (first_failed (merge_conditions g first e.target))) (Some (first, e.target)) None) o None
 
-  abbrev told : Option ℕ → ℕ → Option (ℕ × ℕ)
-  told failed target = cond (is_none failed) (Some (first, target)) None
+  abbrev pair_unless_failed : Option ℕ → ℕ → Option (ℕ × ℕ)
+  pair_unless_failed failed target = cond (is_none failed) (Some (first, target)) None
 
   pub pair_found : (o : Option EventEdge) (failed : Option ℕ) → option_map (λ (e : EventEdge). e.target) o ≡ Some second → failed ≡ first_failed (merge_conditions g first second) → failed ≡ None → Some (first, second) ≡ pair o
   pair_found None failed leads is none = cc
   pair_found (Some e) failed leads is none =
       let same : e.target ≡ second = cc in
-      ap (λ f. told f second) (sym none ∙ is) ∙ ap (λ t. told (first_failed (merge_conditions g first t)) t) (sym same)
+      ap (λ f. pair_unless_failed f second) (sym none ∙ is) ∙ ap (λ t. pair_unless_failed (first_failed (merge_conditions g first t)) t) (sym same)
 
   pub pair_refused : (o : Option EventEdge) (failed : Option ℕ) (n : ℕ) → option_map (λ (e : EventEdge). e.target) o ≡ Some second → failed ≡ first_failed (merge_conditions g first second) → failed ≡ Some n → None ≡ pair o
   pair_refused None failed n leads is some = cc
   pair_refused (Some e) failed n leads is some =
       let same : e.target ≡ second = cc in
-      ap (λ f. told f second) (sym some ∙ is) ∙ ap (λ t. told (first_failed (merge_conditions g first t)) t) (sym same)
+      ap (λ f. pair_unless_failed f second) (sym some ∙ is) ∙ ap (λ t. pair_unless_failed (first_failed (merge_conditions g first t)) t) (sym same)
 
 -- ---- the first that is found from a place on
 
@@ -70,24 +71,18 @@ module _ {X : Type 0} (h : ℕ → Option X) where
   abbrev pub first_from : ℕ → ℕ → Option X
   first_from i n = slice_get (filter_map h (range_with_len i (n - i))) 0
 
-  one_further : (i n : ℕ) → i < n → n - i ≡ suc (n - (i + 1))
-  one_further i n below = omega (arith, below)
-
   found_here : (i n : ℕ) (x : X) → i < n → h i ≡ Some x → first_from i n ≡ Some x
   found_here i n x below is =
-      ap (λ m. slice_get (filter_map h (range_with_len i m)) 0) (one_further i n below)
+      ap (λ m. slice_get (filter_map h (range_with_len i m)) 0) (places_from i n below)
       ∙ ap (λ o. slice_get (cons_option o (filter_map h (range_with_len (i + 1) (n - (i + 1))))) 0) is
 
   found_later : (i n : ℕ) → i < n → h i ≡ None → first_from i n ≡ first_from (i + 1) n
   found_later i n below is =
-      ap (λ m. slice_get (filter_map h (range_with_len i m)) 0) (one_further i n below)
+      ap (λ m. slice_get (filter_map h (range_with_len i m)) 0) (places_from i n below)
       ∙ ap (λ o. slice_get (cons_option o (filter_map h (range_with_len (i + 1) (n - (i + 1))))) 0) is
 
-  nothing_left : (i n : ℕ) → n ≤ i → n - i ≡ 0
-  nothing_left i n past = omega (arith, past)
-
   pub none_left : (i n : ℕ) → n ≤ i → first_from i n ≡ None
-  none_left i n past = ap (λ m. slice_get (filter_map h (range_with_len i m)) 0) (nothing_left i n past)
+  none_left i n past = ap (λ m. slice_get (filter_map h (range_with_len i m)) 0) (no_places_from i n past)
 
   -- what is found at a place is the first from there on, and where nothing is found there the first is a later one
   pub some_here : (o whole : Option X) (i n : ℕ) → i < n → o ≡ h i → is_some o ≡ true → first_from i n ≡ whole → o ≡ whole

@@ -99,9 +99,9 @@ module _ (g : EventGraph) (f : EventVertex → EventVertex) (name_kept : (x : Ev
   opening_length false false = refl
 
   -- after the line of the version, the text has the vertex's new lines in place of its lines
-  pub changed_behind : (v : EventVertex) → slice_get g.vertices first ≡ Some v
+  pub changed-later_lines : (v : EventVertex) → slice_get g.vertices first ≡ Some v
       → length (canonical changed) + length (version_line (needs_version_two g)) + length (vertex_lines g (vertex_at g first)) ≡ length (canonical g) + length (version_line (needs_version_two changed)) + length (vertex_lines g (f (vertex_at g first)))
-  changed_behind v there =
+  changed-later_lines v there =
       let new = canonical_length (needs_version_two changed) (watch_line changed) (flat_map (vertex_lines changed) changed.vertices) in
       let old = canonical_length (needs_version_two g) (watch_line g) (flat_map (vertex_lines g) g.vertices) in
       let version = opening_length (needs_version_two changed) (needs_version_two g) in
@@ -113,9 +113,9 @@ module _ (g : EventGraph) (f : EventVertex → EventVertex) (name_kept : (x : Ev
   -- and so has the whole text, where it needs that line as before
   pub changed_length : needs_version_two changed ≡ needs_version_two g → (v : EventVertex) → slice_get g.vertices first ≡ Some v → length (canonical changed) + length (vertex_lines g (vertex_at g first)) ≡ length (canonical g) + length (vertex_lines g (f (vertex_at g first)))
   changed_length needed v there =
-      let behind = changed_behind v there in
+      let later_lines = changed-later_lines v there in
       let version = ap (λ b. length (version_line b)) needed in
-      omega (arith, behind, version)
+      omega (arith, later_lines, version)
 
 module _ (g : EventGraph) (first second : ℕ) (p : PlainEdge (vertex_at g first) second) where
   abbrev a : EventVertex

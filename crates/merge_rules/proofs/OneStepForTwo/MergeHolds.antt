@@ -79,6 +79,9 @@ lower j k e = grind (arith, nat_tests)
 pub is_below : (k n : ℕ) → nat_lt k n ≡ true → k < n
 is_below k n e = grind (arith, nat_tests)
 
+pub first_there : (g : EventGraph) (first second : ℕ) → first_failed (merge_conditions g first second) ≡ None → first < length g.vertices
+first_there g first second none = is_below first (length g.vertices) (conditions_hold g first second none).exists
+
 pub there_is : {A : Type 0} (xs : List A) (k : ℕ) → nat_lt k (length xs) ≡ true → (x : A) × (slice_get xs k ≡ Some x)
 there_is [] k e = let below = is_below k 0 e in absurd (omega (arith, below))
 there_is (x ∷ xs) zero e = (x, refl)

@@ -2,6 +2,7 @@
 use Rattle.std.proofs.Common.{◌≡◌, ◌⊎◌, inl, inr, ℕ, zero, suc, ◌^◌, ◌≤◌, ℤ, ◌==◌, Bool, true, false, List, [], ◌∷◌, ◌++◌, map, slice_get, slice_index_or, Some, None, option_map, Ok, Err, refl, sym, ◌∙◌, ap, ap₂, subst}
 use Rattle.std.specs.Prelude.{option_to_list, position}
 use Rattle.std.specs.List.{AllByRecursion}
+use Rattle.std.proofs.lemmas.Bool.{eqb-true}
 use Rattle.sig_base.specs.declared.fault.FaultKind.{FaultKind}
 use Rattle.model_core.specs.EventGraph.{EventGraph, EventVertex, EventEdge, Expression, Watched, WatchedVariable, WatchedVertex}
 use Rattle.model_core.specs.Run.State.{State, initial_state, variable_at}
@@ -20,7 +21,6 @@ use Rattle.run_laws.proofs.Keeping.{Kept, received, changed, occur-keeps}
 use Rattle.run_laws.proofs.OnTime.{NoneEarlier, starts-on_time, others_later, occur-on_time}
 use Rattle.run_laws.proofs.EdgesAlike.{with_vertices}
 use Rattle.model_core.proofs.EachOne.{every-map, every-both}
-use Rattle.mark_laws.proofs.EntailedMarks.{same-place}
 use Rattle.model_core.proofs.PlacesChanged.{placed-elsewhere}
 use Rattle.run_laws.proofs.Spared.HeldValues.{Holds}
 use Rattle.run_laws.proofs.Spared.HeldEdges.{treat_edge-held}
@@ -99,8 +99,8 @@ module _ (g : EventGraph) (Q : State → Type 0) (first second : ℕ) (before af
   abbrev Inv : Configuration → Type 0
   Inv c = NoneEarlier c.clock c.pending × OneUrgent c.clock c.pending × Q c.state
 
-  known : (seed : ℕ) (s : State) → Q s → (n : EntryAndRest) → n.entry.time ≤ 2 ^ 48 → (taken : List ℕ) → CalmAfterChanges g seed second (vertex_at g first) before after rights n.entry.time n.entry.values s taken
-  known seed s q n due taken t d got made =
+  calm_then : (seed : ℕ) (s : State) → Q s → (n : EntryAndRest) → n.entry.time ≤ 2 ^ 48 → (taken : List ℕ) → CalmAfterChanges g seed second (vertex_at g first) before after rights n.entry.time n.entry.values s taken
+  calm_then seed s q n due taken t d got made =
       let qd : Q d.state = changed g Q ok.kept seed n.entry.time (vertex_at g first).changes (record { state = t; taken = taken }) d (received g Q ok.kept (vertex_at g first).parameters n.entry.values s t q got) made in
       let (calm_before, calm_after) = ok.calm seed d.state qd n.entry.time due in
       (calm_before, calm_after, λ values t2 d2 got2 made2. every-map (λ e. AllByRecursion (UnwrittenBy b) (edge_reads e)) _ (λ e reads. treat_edge-held g seed d.state d2.state n.entry.time e (every-map (UnwrittenBy b) (Holds d.state d2.state) (λ v unwritten. unwritten-holds g seed n.entry.time b v unwritten values d.state t2 d.taken d2 got2 made2) (edge_reads e) reads)) (before ++ after) ok.unread)
@@ -110,11 +110,11 @@ module _ (g : EventGraph) (Q : State → Type 0) (first second : ℕ) (before af
       let waits : AllByRecursion (DueBefore (urgent_entry n.entry.time second [])) n.others =
       every-both (λ x. n.entry.time ≤ x.time) NotUrgent (DueBefore (urgent_entry n.entry.time second [])) (λ x from some. due-first (urgent_entry n.entry.time second []) n.entry.time (refl, refl) x from some) n.others
       (others_later c.pending n next) (others-not_urgent c.clock c.pending n late urgent next) in
-      let first_is : first ≡ n.entry.vertex = sym (same-place n.entry.vertex first is_first) in
+      let first_is : first ≡ n.entry.vertex = sym (eqb-true n.entry.vertex first is_first) in
       let (v, there) = ok.there in
       let joined = joined_vertex (vertex_at g first) (before ++ after) rights (vertex_at g second) in
       let with_joined : Split g seed second rights n.entry.time (occur g seed (vertex_at g first) n c.state c.taken) (occur g seed joined n c.state c.taken) =
-      merged-splits g seed second (vertex_at g first) before after rights n c.state c.taken ok.aside_before ok.aside_after ok.undrawn ok.edges ok.none waits (known seed c.state q n due c.taken) in
+      merged-splits g seed second (vertex_at g first) before after rights n c.state c.taken ok.aside_before ok.aside_after ok.undrawn ok.edges ok.none waits (calm_then seed c.state q n due c.taken) in
       let at_first : Split g seed second rights n.entry.time (occur g seed (vertex_at g first) n c.state c.taken) (occur g seed (slice_index_or vertices first no_vertex) n c.state c.taken) =
       subst (λ (w : EventVertex). Split g seed second rights n.entry.time (occur g seed (vertex_at g first) n c.state c.taken) (occur g seed w n c.state c.taken)) (sym (place-here (λ v. joined_vertex v (before ++ after) rights (vertex_at g second)) first g.vertices no_vertex v there)) with_joined in
       subst (λ k. Split g seed second rights n.entry.time (occur g seed (vertex_at g k) n c.state c.taken) (occur g seed (slice_index_or vertices k no_vertex) n c.state c.taken)) first_is at_first
@@ -134,7 +134,7 @@ module _ (g : EventGraph) (Q : State → Type 0) (first second : ℕ) (before af
 
   shows : (seed vertex : ℕ) (c : Configuration) (n : EntryAndRest) (d : Configuration) → (vertex == first) ≡ true → n.entry.time ≡ c.clock → occur g seed b n c.state c.taken ≡ Ok d → Discreet g Q first second rights → completed g vertex c ≡ completed g vertex d
   shows seed vertex c n d is_first at_clock done (inl none) =
-      let none_here : position (watches vertex) g.watch ≡ None = subst (λ k. position (watches k) g.watch ≡ None) (sym (same-place vertex first is_first)) none in
+      let none_here : position (watches vertex) g.watch ≡ None = subst (λ k. position (watches k) g.watch ≡ None) (sym (eqb-true vertex first is_first)) none in
       silent_none vertex c none_here ∙ sym (silent_none vertex d none_here)
   shows seed vertex c n d is_first at_clock done (inr (unwritten, quiet)) =
       let m = made g seed b n c.state c.taken d done in
@@ -142,7 +142,7 @@ module _ (g : EventGraph) (Q : State → Type 0) (first second : ℕ) (before af
       ap₂ (λ (clk : ℕ) (values : List (List ℤ)). option_to_list (option_map (λ place. On clk place values) (position (watches vertex) g.watch))) (sym at_clock ∙ m.clock_is) (sym (values-same b c.state d.state holds g.watch unwritten))
 
   is_silent : (seed vertex : ℕ) (c : Configuration) (n : EntryAndRest) (k : FaultKind) → (vertex == first) ≡ true → Q c.state → each (value_of g c.state c.clock) rights ≡ Ok n.entry.values → n.entry.time ≡ c.clock → n.entry.time ≤ 2 ^ 48 → occur g seed b n c.state c.taken ≡ Err k → Discreet g Q first second rights → completed g vertex c ≡ []
-  is_silent seed vertex c n k is_first q carried at_clock due done (inl none) = silent_none vertex c (subst (λ k. position (watches k) g.watch ≡ None) (sym (same-place vertex first is_first)) none)
+  is_silent seed vertex c n k is_first q carried at_clock due done (inl none) = silent_none vertex c (subst (λ k. position (watches k) g.watch ≡ None) (sym (eqb-true vertex first is_first)) none)
   is_silent seed vertex c n k is_first q carried at_clock due done (inr (unwritten, quiet)) =
       absurd (quiet seed n c.state c.taken k q due (subst (λ t. each (value_of g c.state t) rights ≡ Ok n.entry.values) (sym at_clock) carried) done)
 
@@ -163,7 +163,7 @@ module _ (g : EventGraph) (Q : State → Type 0) (first second : ℕ) (before af
   names-same k true is =
       let (v, there) = ok.there in
       let e = place-here (λ v. joined_vertex v (before ++ after) rights (vertex_at g second)) first g.vertices no_vertex v there in
-      subst (λ k. ((vertex_at g k).name ≡ (slice_index_or vertices k no_vertex).name) × ((vertex_at g k).parameters ≡ (slice_index_or vertices k no_vertex).parameters)) (sym (same-place k first is))
+      subst (λ k. ((vertex_at g k).name ≡ (slice_index_or vertices k no_vertex).name) × ((vertex_at g k).parameters ≡ (slice_index_or vertices k no_vertex).parameters)) (sym (eqb-true k first is))
       (ap (λ (v : EventVertex). v.name) (sym e), ap (λ (v : EventVertex). v.parameters) (sym e))
 
   things-same : (watch : List Watched) → map (watched_name_of g) watch ≡ map (watched_name_of (with_vertices g vertices)) watch

@@ -139,12 +139,12 @@ module _ (g : EventGraph) (seed second : ℕ) (v : EventVertex) (before after : 
         let then_second : occur g seed b off d.state d.taken ≡ (receive g b.parameters values d.state >>= λ t. in_turn (make_change g seed clk) b.changes (record { state = t; taken = d.taken }) >>= merged_end) =
         bind_same (receive g b.parameters values d.state) _ _ (λ t received.
         bind_same (in_turn (make_change g seed clk) b.changes (record { state = t; taken = d.taken })) _ _ (λ d2 changed.
-        let treat_behind : EventEdge → EdgeState → OrFault EdgeState = treat_edge g seed d2.state clk in
+        let treat_then : EventEdge → EdgeState → OrFault EdgeState = treat_edge g seed d2.state clk in
         let mid : EdgeState = record { pending = p; taken = d2.taken } in
-        let rest_same : in_turn treat_behind (before ++ after) mid ≡ Ok (record { pending = both.without_it.pending; taken = d2.taken }) =
+        let rest_same : in_turn treat_then (before ++ after) mid ≡ Ok (record { pending = both.without_it.pending; taken = d2.taken }) =
         sym (same-edges g seed d.state d2.state clk (before ++ after) (unread values t d2 received changed) mid) ∙ edges-undrawn g seed d.state clk (before ++ after) undrawn start both.without_it both.to_without d2.taken in
-        let edges_same : in_turn treat_behind ((before ++ after) ++ b.edges) mid ≡ in_turn treat_behind b.edges (record { pending = both.without_it.pending; taken = d2.taken }) =
-        in_turn-append treat_behind (before ++ after) b.edges mid ∙ ap (λ (r : OrFault EdgeState). r >>= in_turn treat_behind b.edges) rest_same in
+        let edges_same : in_turn treat_then ((before ++ after) ++ b.edges) mid ≡ in_turn treat_then b.edges (record { pending = both.without_it.pending; taken = d2.taken }) =
+        in_turn-append treat_then (before ++ after) b.edges mid ∙ ap (λ (r : OrFault EdgeState). r >>= in_turn treat_then b.edges) rest_same in
         ap (λ (r : OrFault EdgeState). r >>= at_end d2.state) (sym edges_same))) in
         let kept : d.taken ≡ both.with_it.taken = words-kept g seed d.state clk (before ++ after) undrawn start both.without_it both.to_without ∙ both.same_taken in
         let to_with : ending (before ++ urgent_edge second rights ∷ after) p d ≡ Ok (record { clock = clk; state = d.state; taken = d.taken; pending = both.with_it.pending }) =
@@ -161,7 +161,7 @@ module _ (g : EventGraph) (seed second : ℕ) (v : EventVertex) (before after : 
         (bind-assoc (each (value_of g d.state clk) rights) _ end ∙ bind_same (each (value_of g d.state clk) rights) _ _ (λ values e. bind-assoc (receive g b.parameters values d.state) _ end)))
 
     pub occurring-splits : (carried : List ℤ) (p : List Entry) (s : State) (taken : List ℕ) → AllByRecursion (DueBefore (urgent_entry clk second [])) p → CalmAfterChanges carried s taken → Split g seed second rights clk (occurring v carried p s taken) (occurring (joined_vertex v (before ++ after) rights b) carried p s taken)
-    occurring-splits carried p s taken due known =
+    occurring-splits carried p s taken due calm_edges =
         bind-split g seed second rights clk (receive g v.parameters carried s) _ _ (λ t received.
         let D : ChangeState = record { state = t; taken = taken } in
         let mk : StateChange → ChangeState → OrFault ChangeState = make_change g seed clk in
@@ -170,12 +170,12 @@ module _ (g : EventGraph) (seed second : ℕ) (v : EventVertex) (before after : 
         let apart : (in_turn mk (v.changes ++ more) D >>= end) ≡ (in_turn mk v.changes D >>= λ d. in_turn mk more d >>= end) = ap (λ (r : OrFault ChangeState). r >>= end) (in_turn-append mk v.changes more D) ∙ bind-assoc (in_turn mk v.changes D) (in_turn mk more) end in
         subst (λ (r : OrFault Configuration). Split g seed second rights clk (in_turn mk v.changes D >>= ending v.edges p) r) (sym apart)
         (bind-split g seed second rights clk (in_turn mk v.changes D) _ _ (λ d changed.
-        let (calm_before, calm_after, unread) = known t d received changed in
+        let (calm_before, calm_after, unread) = calm_edges t d received changed in
         subst (λ (es : List EventEdge). Split g seed second rights clk (ending es p d) (in_turn mk more d >>= end)) (sym whole)
         (subst (λ (r : OrFault Configuration). Split g seed second rights clk (ending (before ++ urgent_edge second rights ∷ after) p d) r) (sym (carried-first d p))
         (tail-split d p calm_before calm_after unread due (each (value_of g d.state clk) rights) refl)))))
 
 -- the merged event at an entry that was taken off
 pub merged-splits : (g : EventGraph) (seed second : ℕ) (v : EventVertex) (before after : List EventEdge) (rights : List Expression) (n : EntryAndRest) (s : State) (taken : List ℕ) → AllByRecursion (λ (e : EventEdge). Aside second e.target e.kind) before → AllByRecursion (λ (e : EventEdge). Aside second e.target e.kind) after → AllByRecursion Undrawn (before ++ after) → v.edges ≡ before ++ urgent_edge second rights ∷ after → ((vertex_at g second).parameters ≡ [] → rights ≡ []) → AllByRecursion (DueBefore (urgent_entry n.entry.time second [])) n.others → CalmAfterChanges g seed second v before after rights n.entry.time n.entry.values s taken → Split g seed second rights n.entry.time (occur g seed v n s taken) (occur g seed (joined_vertex v (before ++ after) rights (vertex_at g second)) n s taken)
-merged-splits g seed second v before after rights n s taken aside_before aside_after undrawn whole none due known =
-    occurring-splits g seed second v before after rights n.entry.time aside_before aside_after undrawn whole none n.entry.values n.others s taken due known
+merged-splits g seed second v before after rights n s taken aside_before aside_after undrawn whole none due calm_edges =
+    occurring-splits g seed second v before after rights n.entry.time aside_before aside_after undrawn whole none n.entry.values n.others s taken due calm_edges

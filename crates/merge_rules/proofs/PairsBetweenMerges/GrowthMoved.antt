@@ -10,7 +10,7 @@ use Rattle.model_core.specs.Rules.Drop.{edge_renumbered, vertex_renumbered}
 use Rattle.model_core.specs.Rules.UrgentEdges.{plain_urgent_edge}
 use Rattle.model_core.specs.Rules.Merge.{set_parameters}
 use Rattle.run_laws.proofs.MappedVertices.{with_mapped}
-use Rattle.merge_rules.specs.PairStanding.{target_at_once}
+use Rattle.merge_rules.specs.PairFits.{target_at_once}
 use Rattle.merge_rules.specs.Growth.{body_lines, lines_taken_over, bytes_added, bytes_gone, capped, growth}
 use Rattle.merge_rules.proofs.PairsBetweenMerges.PairsMoved.{edge-alike}
 

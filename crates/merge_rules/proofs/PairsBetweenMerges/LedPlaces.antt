@@ -1,12 +1,12 @@
 -- How many edges lead to each place, counted in a table of what is kept of the vertices.
 use Rattle.std.proofs.Common.{◌≡◌, ◌⊎◌, inl, inr, ℕ, zero, suc, ◌+◌, ◌-◌, ◌<◌, ◌==◌, Bool, true, false, ◌||◌, cond, List, [], ◌∷◌, ◌++◌, map, length, slice_get, slice_index_or, Some, refl, sym, ◌∙◌, ap, ap₂, arith}
 use Rattle.std.specs.List.{remove, list_any}
+use Rattle.std.proofs.lemmas.Bool.{eqb-true}
 use Rattle.model_core.specs.EventGraph.{EventVertex, EventEdge}
 use Rattle.model_core.specs.Run.Step.{no_vertex}
 use Rattle.model_core.specs.Rules.PlacedEdges.{with_place}
 use Rattle.model_core.specs.Rules.Merge.{leads_to}
 use Rattle.model_core.proofs.PlacesChanged.{length_placed, placed-there, placed-elsewhere, apart-turned}
-use Rattle.mark_laws.proofs.EntailedMarks.{same-place}
 use Rattle.merge_rules.specs.KeptPairs.{edges_leading, edges_to, no_pair}
 use Rattle.merge_rules.specs.Inner.PairMoves.{with_more, with_fewer, edges_added, all_edges_added, edges_taken}
 use Rattle.merge_rules.specs.declared.kept_pairs.KeptPair.{KeptPair}
@@ -38,7 +38,7 @@ one-counted : (f : ℕ → KeptPair → KeptPair) → ((p : KeptPair) → f 0 p 
     → slice_index_or (with_place (f 1) t pairs) k no_pair ≡ f (cond (t == k) 1 0) (slice_index_or pairs k no_pair)
 one-counted f none t k pairs below = by (t == k) refl where
   by : (b : Bool) → (t == k) ≡ b → slice_index_or (with_place (f 1) t pairs) k no_pair ≡ f (cond b 1 0) (slice_index_or pairs k no_pair)
-  by true same = ap (λ j. slice_index_or (with_place (f 1) j pairs) k no_pair) (same-place t k same) ∙ placed-there (f 1) k pairs no_pair below
+  by true same = ap (λ j. slice_index_or (with_place (f 1) j pairs) k no_pair) (eqb-true t k same) ∙ placed-there (f 1) k pairs no_pair below
   by false apart = placed-elsewhere (f 1) t k pairs no_pair (apart-turned t k apart) ∙ sym (none (slice_index_or pairs k no_pair))
 
 pub added-long : (es : List EventEdge) (pairs : List KeptPair) → length (edges_added es pairs) ≡ length pairs
@@ -104,9 +104,9 @@ to-without (v ∷ vs) (suc gone) k below = let later = to-without vs gone k (ome
 
 -- ---- none leads there, or one does
 
-leading-told : (es : List EventEdge) (k : ℕ) → (0 < edges_leading es k → list_any (leads_to k) es ≡ true) × (edges_leading es k ≡ 0 → list_any (leads_to k) es ≡ false)
-leading-told [] k = ((λ some. absurd (omega (arith, some))), λ none. refl)
-leading-told (e ∷ es) k = by (e.target == k) (leading-told es k) where
+edges_leading-any : (es : List EventEdge) (k : ℕ) → (0 < edges_leading es k → list_any (leads_to k) es ≡ true) × (edges_leading es k ≡ 0 → list_any (leads_to k) es ≡ false)
+edges_leading-any [] k = ((λ some. absurd (omega (arith, some))), λ none. refl)
+edges_leading-any (e ∷ es) k = by (e.target == k) (edges_leading-any es k) where
   by : (b : Bool) → (0 < edges_leading es k → list_any (leads_to k) es ≡ true) × (edges_leading es k ≡ 0 → list_any (leads_to k) es ≡ false)
       → (0 < cond b 1 0 + edges_leading es k → (b || list_any (leads_to k) es) ≡ true) × (cond b 1 0 + edges_leading es k ≡ 0 → (b || list_any (leads_to k) es) ≡ false)
   by true later = ((λ some. refl), λ none. absurd (omega (arith, none)))
@@ -129,8 +129,8 @@ leads_there vs k = list_any (λ (v : EventVertex). list_any (leads_to k) v.edges
 
 pub some-lead : (vs : List EventVertex) (k : ℕ) → 0 < edges_to vs k → leads_there vs k ≡ true
 some-lead [] k some = absurd (omega (arith, some))
-some-lead (v ∷ vs) k some = either (list_any (leads_to k) v.edges) (leads_there vs k) (edges_leading v.edges k) (edges_to vs k) (leading-told v.edges k).0 (some-lead vs k) (some_of (edges_leading v.edges k) (edges_to vs k) some)
+some-lead (v ∷ vs) k some = either (list_any (leads_to k) v.edges) (leads_there vs k) (edges_leading v.edges k) (edges_to vs k) (edges_leading-any v.edges k).0 (some-lead vs k) (some_of (edges_leading v.edges k) (edges_to vs k) some)
 
 pub none-lead : (vs : List EventVertex) (k : ℕ) → edges_to vs k ≡ 0 → leads_there vs k ≡ false
 none-lead [] k none = refl
-none-lead (v ∷ vs) k none = neither (list_any (leads_to k) v.edges) (leads_there vs k) ((leading-told v.edges k).1 (omega (arith, none))) (none-lead vs k (omega (arith, none)))
+none-lead (v ∷ vs) k none = neither (list_any (leads_to k) v.edges) (leads_there vs k) ((edges_leading-any v.edges k).1 (omega (arith, none))) (none-lead vs k (omega (arith, none)))

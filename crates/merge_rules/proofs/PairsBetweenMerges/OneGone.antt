@@ -59,15 +59,15 @@ without-none gone = grind (arith, nat_tests)
 without-front : (k : ℕ) → k ≡ place_without 0 (suc k)
 without-front k = grind (arith, nat_tests)
 
-without-behind : (gone k : ℕ) → suc (place_without gone k) ≡ place_without (suc gone) (suc k)
-without-behind gone k = grind (arith, nat_tests)
+place_without-suc : (gone k : ℕ) → suc (place_without gone k) ≡ place_without (suc gone) (suc k)
+place_without-suc gone k = grind (arith, nat_tests)
 
 pub rank-but : (n gone k : ℕ) → k < n → rank (all_but n gone) k ≡ place_without gone k
 rank-but zero gone k below = absurd (omega arith)
 rank-but (suc n) zero zero below = without-none 0
 rank-but (suc n) zero (suc k) below = true-rank n k (omega (arith, below)) ∙ without-front k
 rank-but (suc n) (suc gone) zero below = without-none (suc gone)
-rank-but (suc n) (suc gone) (suc k) below = ap suc (rank-but n gone k (omega (arith, below))) ∙ without-behind gone k
+rank-but (suc n) (suc gone) (suc k) below = ap suc (rank-but n gone k (omega (arith, below))) ∙ place_without-suc gone k
 
 -- ---- what is left of a list
 

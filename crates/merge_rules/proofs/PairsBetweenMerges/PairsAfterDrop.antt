@@ -18,7 +18,7 @@ use Rattle.mark_laws.proofs.Marks.{Marked, rank-apart, rank-within, marked-place
 use Rattle.static_laws.proofs.StaticTwins.DeclaredNames.{every_item}
 use Rattle.run_laws.proofs.MappedVertices.{WatchedAreApart}
 use Rattle.model_core.specs.Text.Canonical.{vertex_name}
-use Rattle.merge_rules.specs.PairStanding.{target_at_once, acts_unseen, pair_fits}
+use Rattle.merge_rules.specs.PairFits.{target_at_once, acts_unseen, pair_fits}
 use Rattle.merge_rules.specs.Growth.{growth, pair_growth}
 use Rattle.merge_rules.specs.declared.growth.Growth.{Growth}
 use Rattle.merge_rules.specs.KeptPairs.{edges_leading, edges_to, has_incoming, FitIsRight, PairIsRight, PairsAreRight, no_pair}
@@ -26,7 +26,7 @@ use Rattle.merge_rules.specs.Inner.PairMoves.{with_fewer, edges_taken, moved_up}
 use Rattle.merge_rules.specs.declared.kept_pairs.KeptPair.{KeptPair}
 use Rattle.merge_rules.proofs.SingleUrgentModels.SingleUrgent.{edges_keep}
 use Rattle.merge_rules.proofs.SingleUrgentModels.PlainEdges.{is_there}
-use Rattle.merge_rules.proofs.PairsBetweenMerges.PairsMoved.{acts-alike, target-alike, fits-moved, still_told}
+use Rattle.merge_rules.proofs.PairsBetweenMerges.PairsMoved.{acts-alike, target-alike, fits-moved, unseen-stays}
 use Rattle.merge_rules.proofs.PairsBetweenMerges.GrowthMoved.{growth-moved}
 use Rattle.merge_rules.proofs.PairsBetweenMerges.LedPlaces.{leads_there, mapped-there, taken-long, taken-at, to-without}
 use Rattle.merge_rules.proofs.PairsBetweenMerges.OneGone.{all_but, staying-but, marked-but, rank-but, left-but, left-long}
@@ -194,8 +194,8 @@ module _ (g : EventGraph) (keeps : KeepsParts g) (gone : ℕ) (there : gone < le
               ap (option_map (place_without gone)) was.target
               ∙ new_target (target_at_once (vertex_at g k)) (λ t is. at-once (λ t. t < n) (vertex_at g k) t (targets-there k) is)
               ∙ sym (target-alike f (vertex_at g k)) ∙ sym (ap target_at_once (placed k live));
-          standing = subst (FitIsRight p.standing) (sym (pair-growth-after k live below)) was.standing;
-          unseen = still_told p.unseen g h _ _ (acts-after k live) was.unseen;
+          answer = subst (FitIsRight p.answer) (sym (pair-growth-after k live below)) was.answer;
+          unseen = unseen-stays p.unseen g h _ _ (acts-after k live) was.unseen;
           incoming = ap (λ m. m - edges_leading (vertex_at g gone).edges k) was.incoming ∙ sym (edges-counted k live);
         })
 

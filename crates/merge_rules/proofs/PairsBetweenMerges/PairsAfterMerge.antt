@@ -3,6 +3,7 @@ use Rattle.std.proofs.Common.{◌≡◌, ℕ, ◌+◌, ◌-◌, ◌<◌, ◌==�
 use Rattle.std.specs.List.{AllByRecursion, remove}
 use Rattle.std.specs.Option.{option_map, option_map_or, option_and_then}
 use Rattle.std.proofs.lemmas.List.{length-map}
+use Rattle.std.proofs.lemmas.Bool.{eqb-true}
 use Rattle.model_core.specs.EventGraph.{EventGraph, EventVertex, EventEdge, Watched, WatchedVariable, WatchedVertex}
 use Rattle.model_core.specs.Run.Step.{no_vertex, vertex_at}
 use Rattle.model_core.specs.Rules.Conditions.{first_failed}
@@ -11,22 +12,21 @@ use Rattle.model_core.specs.Rules.PlacedEdges.{with_place}
 use Rattle.model_core.specs.Rules.UrgentEdges.{plain_urgent}
 use Rattle.model_core.specs.Rules.Merge.{merge_conditions, merged_with, merged}
 use Rattle.model_core.proofs.PlacesChanged.{length_placed, shown_placed, placed-there, placed-elsewhere}
-use Rattle.mark_laws.proofs.EntailedMarks.{same-place}
 use Rattle.run_laws.proofs.MappedVertices.{WatchedAreApart}
 use Rattle.model_core.specs.Text.Canonical.{vertex_name}
-use Rattle.merge_rules.specs.PairStanding.{target_at_once, acts_unseen, pair_conditions, pair_fits}
+use Rattle.merge_rules.specs.PairFits.{target_at_once, acts_unseen, pair_conditions, pair_fits}
 use Rattle.merge_rules.specs.Growth.{growth, pair_growth}
 use Rattle.merge_rules.specs.declared.growth.Growth.{Growth}
 use Rattle.merge_rules.specs.KeptPairs.{edges_leading, edges_to, FitIsRight, PairIsRight, PairsAreRight, no_pair}
-use Rattle.merge_rules.specs.Inner.PairMoves.{with_more, with_fewer, edges_added, standing_forgotten, target_removed, pairs_merged}
+use Rattle.merge_rules.specs.Inner.PairMoves.{with_more, with_fewer, edges_added, answer_forgotten, target_removed, pairs_merged}
 use Rattle.merge_rules.specs.declared.kept_pairs.KeptPair.{KeptPair}
-use Rattle.merge_rules.specs.declared.kept_pairs.PairAnswer.TheVariants as standings
+use Rattle.merge_rules.specs.declared.kept_pairs.PairAnswer.TheVariants as answers
 use Rattle.merge_rules.specs.UrgentVertices.{has_plain}
-use Rattle.merge_rules.proofs.OneStepForTwo.MergeHolds.{Mergeable, conditions_hold, is_below}
+use Rattle.merge_rules.proofs.OneStepForTwo.MergeHolds.{conditions_hold, first_there}
 use Rattle.merge_rules.proofs.OneStepForTwo.MergeResult.{joined_is}
 use Rattle.merge_rules.proofs.OneStepForTwo.EdgesAside.{urgent_edge}
 use Rattle.merge_rules.proofs.SingleUrgentModels.OneUrgentLess.{plain_gone}
-use Rattle.merge_rules.proofs.PairsBetweenMerges.PairsMoved.{acts-alike, fits-moved, still_told}
+use Rattle.merge_rules.proofs.PairsBetweenMerges.PairsMoved.{acts-alike, fits-moved, unseen-stays}
 use Rattle.merge_rules.proofs.PairsBetweenMerges.GrowthMoved.{growth-moved}
 use Rattle.merge_rules.proofs.MergedText.ValidMerged.{name_stays}
 use Rattle.merge_rules.proofs.PairsBetweenMerges.LedPlaces.{mapped-there, added-long, added-at, one_fewer-at, leading-joined, leading-without, to-placed}
@@ -45,10 +45,10 @@ edges-same (e ∷ es) = ap (λ es. e ∷ es) (edges-same es)
 vertex-same : (v : EventVertex) → vertex_renumbered (λ k. k) v ≡ v
 vertex-same v = ap (λ es. record v { edges = es }) (edges-same v.edges)
 
-all-told : (watch : List Watched) → AllByRecursion (WatchedAreApart (λ k. Unit {0})) watch
-all-told [] = tt
-all-told (WatchedVariable v ∷ watch) = (tt, all-told watch)
-all-told (WatchedVertex v ∷ watch) = (tt, all-told watch)
+all_apart : (watch : List Watched) → AllByRecursion (WatchedAreApart (λ k. Unit {0})) watch
+all_apart [] = tt
+all_apart (WatchedVariable v ∷ watch) = (tt, all_apart watch)
+all_apart (WatchedVertex v ∷ watch) = (tt, all_apart watch)
 
 all-live : (es : List EventEdge) → AllByRecursion (λ (e : EventEdge). Unit {0}) es
 all-live [] = tt
@@ -70,17 +70,11 @@ module _ (g : EventGraph) (first second : ℕ) (none : first_failed (merge_condi
   abbrev b : EventVertex
   b = vertex_at g second
 
-  m : Mergeable g first second
-  m = conditions_hold g first second none
-
-  there : first < length g.vertices
-  there = is_below first (length g.vertices) m.exists
-
   elsewhere : (k : ℕ) → (k == first) ≡ false → vertex_at h k ≡ vertex_at g k
   elsewhere k apart = placed-elsewhere (merged_with b) first k g.vertices no_vertex apart
 
   here : vertex_at h first ≡ merged_with b a
-  here = placed-there (merged_with b) first g.vertices no_vertex there
+  here = placed-there (merged_with b) first g.vertices no_vertex (first_there g first second none)
 
   long : length h.vertices ≡ length g.vertices
   long = length_placed (merged_with b) first g.vertices
@@ -89,7 +83,7 @@ module _ (g : EventGraph) (first second : ℕ) (none : first_failed (merge_condi
   fits-elsewhere : (k : ℕ) → (k == first) ≡ false → ((t : ℕ) → target_at_once (vertex_at g k) ≡ Some t → (t == first) ≡ false) → pair_fits h k ≡ pair_fits g k
   fits-elsewhere k apart target_apart =
       ap (λ (watch : List Watched). pair_fits (let g : EventGraph = record h { watch = watch } in g) k) (sym (watch-same g.watch))
-      ∙ fits-moved g (λ k. k) h.vertices (λ k. Unit {0}) (λ x y live too. refl) (all-told g.watch) k tt (all-live (vertex_at g k).edges)
+      ∙ fits-moved g (λ k. k) h.vertices (λ k. Unit {0}) (λ x y live too. refl) (all_apart g.watch) k tt (all-live (vertex_at g k).edges)
       (ap (nat_lt k) long) (elsewhere k apart ∙ sym (vertex-same (vertex_at g k)))
       (λ t is. (tt, ap (nat_lt t) long, elsewhere t (target_apart t is) ∙ sym (vertex-same (vertex_at g t))))
 
@@ -114,8 +108,8 @@ module _ (g : EventGraph) (first second : ℕ) (none : first_failed (merge_condi
   -- the edge to the second vertex is gone, and its own are added
   edges-counted : (k : ℕ) → edges_to h.vertices k ≡ edges_to g.vertices k + edges_leading b.edges k - cond (second == k) 1 0
   edges-counted k =
-      let p = m.edge in
-      let placed = to-placed (merged_with b) g.vertices first k there in
+      let p = (conditions_hold g first second none).edge in
+      let placed = to-placed (merged_with b) g.vertices first k (first_there g first second none) in
       let rest : cond (second == k) 1 0 + edges_leading (remove a.edges p.place) k ≡ edges_leading a.edges k = leading-without a.edges p.place (urgent_edge second p.values) k p.there in
       let joined : edges_leading (merged_with b a).edges k ≡ edges_leading (remove a.edges p.place) k + edges_leading b.edges k =
       ap (λ (v : EventVertex). edges_leading v.edges k) (joined_is a b second p) ∙ ap (λ (es : List EventEdge). edges_leading (es ++ b.edges) k) (sym p.rest) ∙ leading-joined (remove a.edges p.place) b.edges k in
@@ -140,45 +134,46 @@ module _ (g : EventGraph) (first second : ℕ) (none : first_failed (merge_condi
         ∙ ap (with_fewer (cond (second == k) 1 0)) (added-at b.edges pairs k below)
 
     after-long : length after ≡ length h.vertices
-    after-long = length_placed target_removed first (map (standing_forgotten first) counted) ∙ length-map counted (standing_forgotten first) ∙ counted-long ∙ are.long ∙ sym long
+    after-long = length_placed target_removed first (map (answer_forgotten first) counted) ∙ length-map counted (answer_forgotten first) ∙ counted-long ∙ are.long ∙ sym long
 
-    asked-at : (k : ℕ) → k < length pairs → slice_index_or (map (standing_forgotten first) counted) k no_pair ≡ standing_forgotten first (with_fewer (cond (second == k) 1 0) (with_more (edges_leading b.edges k) (slice_index_or pairs k no_pair)))
-    asked-at k below = mapped-there (standing_forgotten first) counted k no_pair (omega (arith, below, counted-long)) ∙ ap (standing_forgotten first) (counted-at k below)
+    asked-at : (k : ℕ) → k < length pairs → slice_index_or (map (answer_forgotten first) counted) k no_pair ≡ answer_forgotten first (with_fewer (cond (second == k) 1 0) (with_more (edges_leading b.edges k) (slice_index_or pairs k no_pair)))
+    asked-at k below = mapped-there (answer_forgotten first) counted k no_pair (omega (arith, below, counted-long)) ∙ ap (answer_forgotten first) (counted-at k below)
 
     -- what is known of the other stays known, but where its plain urgent edge leads to the one that has changed
-    still-tells : (k : ℕ) → (k == first) ≡ false → (p : KeptPair) → p.target ≡ target_at_once (vertex_at g k) → FitIsRight p.standing (pair_growth g k) → FitIsRight (standing_forgotten first p).standing (pair_growth h k)
-    still-tells k apart p target tells = by p.target refl where
-      by : (o : Option ℕ) → p.target ≡ o → FitIsRight (cond (option_map_or (λ target. target == first) o false) standings.Unknown p.standing) (pair_growth h k)
-      by None is = subst (FitIsRight p.standing) (sym (pair-growth-elsewhere k apart (λ t leads. let no : None ≡ Some t = sym is ∙ target ∙ leads in cc))) tells
+    fit-stays : (k : ℕ) → (k == first) ≡ false → (p : KeptPair) → p.target ≡ target_at_once (vertex_at g k) → FitIsRight p.answer (pair_growth g k) → FitIsRight (answer_forgotten first p).answer (pair_growth h k)
+    fit-stays k apart p target was_right = by p.target refl where
+      by : (o : Option ℕ) → p.target ≡ o → FitIsRight (cond (option_map_or (λ target. target == first) o false) answers.Unknown p.answer) (pair_growth h k)
+      by None is = subst (FitIsRight p.answer) (sym (pair-growth-elsewhere k apart (λ t leads. let no : None ≡ Some t = sym is ∙ target ∙ leads in cc))) was_right
       by (Some t) is = chosen (t == first) refl where
-        chosen : (c : Bool) → (t == first) ≡ c → FitIsRight (cond c standings.Unknown p.standing) (pair_growth h k)
+        chosen : (c : Bool) → (t == first) ≡ c → FitIsRight (cond c answers.Unknown p.answer) (pair_growth h k)
         chosen true same = tt
         chosen false other =
-            subst (FitIsRight p.standing)
-            (sym (pair-growth-elsewhere k apart (λ u leads. let both : Some t ≡ Some u = sym is ∙ target ∙ leads in let e : t ≡ u = cc in subst (λ v. (v == first) ≡ false) e other))) tells
+            subst (FitIsRight p.answer)
+            (sym (pair-growth-elsewhere k apart (λ u leads. let both : Some t ≡ Some u = sym is ∙ target ∙ leads in let e : t ≡ u = cc in subst (λ v. (v == first) ≡ false) e other))) was_right
 
     pair-elsewhere : (k : ℕ) → k < length g.vertices → (k == first) ≡ false → PairIsRight h k (slice_index_or after k no_pair)
     pair-elsewhere k below apart =
         let p = slice_index_or pairs k no_pair in
         let was = are.each k below in
         let within : k < length pairs = omega (arith, below, are.long) in
-        subst (PairIsRight h k) (sym (placed-elsewhere target_removed first k (map (standing_forgotten first) counted) no_pair apart ∙ asked-at k within)) (record {
+        subst (PairIsRight h k) (sym (placed-elsewhere target_removed first k (map (answer_forgotten first) counted) no_pair apart ∙ asked-at k within)) (record {
           target = was.target ∙ sym (ap target_at_once (elsewhere k apart));
-          standing = still-tells k apart (with_fewer (cond (second == k) 1 0) (with_more (edges_leading b.edges k) p)) was.target was.standing;
-          unseen = still_told p.unseen g h _ _ (acts-elsewhere k apart) was.unseen;
+          answer = fit-stays k apart (with_fewer (cond (second == k) 1 0) (with_more (edges_leading b.edges k) p)) was.target was.answer;
+          unseen = unseen-stays p.unseen g h _ _ (acts-elsewhere k apart) was.unseen;
           incoming = ap (λ n. n + edges_leading b.edges k - cond (second == k) 1 0) was.incoming ∙ sym (edges-counted k);
         })
 
     pair-here : PairIsRight h first (slice_index_or after first no_pair)
     pair-here =
+        let there = first_there g first second none in
         let was = are.each first there in
         let within : first < length pairs = omega (arith, there, are.long) in
         let leads : target_at_once (vertex_at h first) ≡ None = ap target_at_once here ∙ no-plain (merged_with b a) (plain_gone g first second none) in
         subst (PairIsRight h first)
-        (sym (placed-there target_removed first (map (standing_forgotten first) counted) no_pair (omega (arith, within, length-map counted (standing_forgotten first), counted-long)) ∙ ap target_removed (asked-at first within)))
+        (sym (placed-there target_removed first (map (answer_forgotten first) counted) no_pair (omega (arith, within, length-map counted (answer_forgotten first), counted-long)) ∙ ap target_removed (asked-at first within)))
         (record {
           target = sym leads;
-          standing = ap (λ (o : Option ℕ). cond (option_map_or (λ second. is_none (first_failed (pair_conditions h first second))) o false) (Some (growth h first)) None) leads;
+          answer = ap (λ (o : Option ℕ). cond (option_map_or (λ second. is_none (first_failed (pair_conditions h first second))) o false) (Some (growth h first)) None) leads;
           unseen = tt;
           incoming = ap (λ n. n + edges_leading b.edges first - cond (second == first) 1 0) was.incoming ∙ sym (edges-counted first);
         })
@@ -188,5 +183,5 @@ module _ (g : EventGraph) (first second : ℕ) (none : first_failed (merge_condi
       each : (k : ℕ) → k < length h.vertices → PairIsRight h k (slice_index_or after k no_pair)
       each k below = by (k == first) refl where
         by : (c : Bool) → (k == first) ≡ c → PairIsRight h k (slice_index_or after k no_pair)
-        by true same = subst (λ j. PairIsRight h j (slice_index_or after j no_pair)) (sym (same-place k first same)) pair-here
+        by true same = subst (λ j. PairIsRight h j (slice_index_or after j no_pair)) (sym (eqb-true k first same)) pair-here
         by false apart = pair-elsewhere k (omega (arith, below, long)) apart

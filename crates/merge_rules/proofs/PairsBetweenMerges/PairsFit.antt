@@ -4,6 +4,7 @@ use Rattle.std.specs.Prelude.{slice_get, filter_map}
 use Rattle.std.specs.List.{list_all, list_any, range_with_len, cons_option}
 use Rattle.std.specs.Option.{option_map, option_map_or}
 use Rattle.sig_base.specs.declared.limits.TheConstants.{TEXT_MAX}
+use Rattle.sig_base.proofs.Tests.{none-is_none}
 use Rattle.model_core.specs.EventGraph.{EventGraph, EventVertex, EventEdge, has_drawn_delay}
 use Rattle.model_core.specs.Run.Step.{no_vertex, vertex_at}
 use Rattle.model_core.specs.Text.Canonical.{canonical}
@@ -13,7 +14,8 @@ use Rattle.model_core.specs.Rules.Uses.{vertex_writes}
 use Rattle.model_core.specs.Rules.UrgentEdges.{plain_urgent, plain_urgent_edge, single_urgent}
 use Rattle.model_core.specs.Rules.Merge.{leads_to, cancels, is_watched_vertex, reads_none_of, happens_unseen, values_at_once, other_edges, has_few_parts, merged_with, merged, merge_conditions, merge_at, first_merge}
 use Rattle.model_core.proofs.PlacesChanged.{same_number, placed-there}
-use Rattle.merge_rules.specs.PairStanding.{target_at_once, pair_conditions, pair_fits}
+use Rattle.model_core.proofs.BothTrue.{and_first}
+use Rattle.merge_rules.specs.PairFits.{target_at_once, pair_conditions, pair_fits}
 use Rattle.merge_rules.specs.Growth.{growth, pair_growth}
 use Rattle.merge_rules.specs.declared.growth.Growth.{Growth}
 
@@ -43,15 +45,11 @@ all-last : (bs : List Bool) (w : Bool) → all_hold (bs ++ w ∷ []) ≡ (all_ho
 all-last [] w = and-true w
 all-last (b ∷ bs) w = ap (λ c. b && c) (all-last bs w) ∙ sym (and-three b (all_hold bs) w)
 
-none_is : (o : Option ℕ) → is_none o ≡ true → o ≡ None
-none_is None e = refl
-none_is (Some n) e = cc
-
 -- ---- two that fit
 
-leads-told : (second : ℕ) (o : Option EventEdge) → option_map (λ (e : EventEdge). e.target) o ≡ Some second → option_map_or (leads_to second) o false ≡ true
-leads-told second None is = cc
-leads-told second (Some e) is = same_number e.target second (let same : e.target ≡ second = cc in same)
+leads_to-target : (second : ℕ) (o : Option EventEdge) → option_map (λ (e : EventEdge). e.target) o ≡ Some second → option_map_or (leads_to second) o false ≡ true
+leads_to-target second None is = cc
+leads_to-target second (Some e) is = same_number e.target second (let same : e.target ≡ second = cc in same)
 
 module _ (g : EventGraph) (first second : ℕ) (single : single_urgent g ≡ true) (target : target_at_once (vertex_at g first) ≡ Some second) (there : first < length g.vertices) where
   abbrev a : EventVertex
@@ -74,7 +72,7 @@ module _ (g : EventGraph) (first second : ℕ) (single : single_urgent g ≡ tru
 
   seven-six : all_hold seven ≡ all_hold six
   seven-six = λ i.
-      (ap (λ c. nat_lt first (length g.vertices) && nat_lt second (length g.vertices) && not (first == second) && c) (leads-told second (plain_urgent_edge a) target) ∙ and-true (nat_lt first (length g.vertices) && nat_lt second (length g.vertices) && not (first == second))) i
+      (ap (λ c. nat_lt first (length g.vertices) && nat_lt second (length g.vertices) && not (first == second) && c) (leads_to-target second (plain_urgent_edge a) target) ∙ and-true (nat_lt first (length g.vertices) && nat_lt second (length g.vertices) && not (first == second))) i
       && (is_none (plain_urgent b) && (single i && all_hold (take 4 (not (is_watched_vertex g second) ∷ not (list_any (cancels second) a.edges) ∷ list_all (λ e. quiet_edge g e && reads_none_of (vertex_writes b) e && not (has_drawn_delay e)) (other_edges a) ∷ (not (is_watched_vertex g first) || happens_unseen g b (values_at_once a)) ∷ []))))
 
   few-is : has_few_parts (merged_with b a) ≡ few
@@ -91,14 +89,10 @@ module _ (g : EventGraph) (first second : ℕ) (single : single_urgent g ≡ tru
   refused failed n is some = sym (fits-is ∙ ap (λ o. is_none o && few) (sym is ∙ some))
 
   pub fitting : (failed : Option ℕ) (is_few : Bool) → failed ≡ first_failed seven → failed ≡ None → is_few ≡ few → is_few ≡ pair_fits g first
-  fitting failed is_few is none few_told = few_told ∙ sym (fits-is ∙ ap (λ o. is_none o && few) (sym is ∙ none))
-
-  front-true : (x y : Bool) → (x && y) ≡ true → x ≡ true
-  front-true true y e = refl
-  front-true false y e = cc
+  fitting failed is_few is none few_parts-merged = few_parts-merged ∙ sym (fits-is ∙ ap (λ o. is_none o && few) (sym is ∙ none))
 
   pub seven-hold : pair_fits g first ≡ true → first_failed seven ≡ None
-  seven-hold fits = none_is (first_failed seven) (front-true (is_none (first_failed seven)) few (sym fits-is ∙ fits))
+  seven-hold fits = none-is_none (first_failed seven) (and_first (is_none (first_failed seven)) few (sym fits-is ∙ fits))
 
   -- ---- and can be merged
 
@@ -137,11 +131,11 @@ unchosen : {X : Type 0} (b : Bool) (x : X) → None ≡ cond b (Some x) None →
 unchosen true x e = cc
 unchosen false x e = refl
 
-pub fits-told : (g : EventGraph) (first : ℕ) (grows : Growth) → Some grows ≡ pair_growth g first → (pair_fits g first ≡ true) × (grows ≡ growth g first)
-fits-told g first grows is = chosen (pair_fits g first) (growth g first) grows is
+pub pair_growth-some : (g : EventGraph) (first : ℕ) (grows : Growth) → Some grows ≡ pair_growth g first → (pair_fits g first ≡ true) × (grows ≡ growth g first)
+pair_growth-some g first grows is = chosen (pair_fits g first) (growth g first) grows is
 
-pub unfit-told : (g : EventGraph) (first : ℕ) → None ≡ pair_growth g first → pair_fits g first ≡ false
-unfit-told g first is = unchosen (pair_fits g first) (growth g first) is
+pub pair_growth-none : (g : EventGraph) (first : ℕ) → None ≡ pair_growth g first → pair_fits g first ≡ false
+pair_growth-none g first is = unchosen (pair_fits g first) (growth g first) is
 
 -- ---- none
 

@@ -2,6 +2,7 @@
 use Rattle.std.proofs.Common.{◌≡◌, ◌⊎◌, inl, inr, ℕ, zero, suc, ◌<◌, ◌==◌, nat_lt, Bool, true, false, List, [], ◌∷◌, map, length, slice_index_or, slice_set, get_or, Some, refl, sym, ◌∙◌, ap, subst, arith}
 use Rattle.std.proofs.lemmas.Bool.Decides.{nat_tests}
 use Rattle.std.proofs.lemmas.List.{length-map}
+use Rattle.std.proofs.lemmas.Bool.{eqb-true}
 use Rattle.model_core.specs.declared.vertex.Vertex.{Vertex}
 use Rattle.model_core.specs.EventGraph.{EventGraph}
 use Rattle.model_core.specs.Run.Step.{no_vertex, vertex_at}
@@ -9,8 +10,7 @@ use Rattle.model_core.specs.Code.Views.{vertex_of}
 use Rattle.model_core.specs.Rules.PlacedEdges.{with_place}
 use Rattle.model_core.proofs.Images.{at-map}
 use Rattle.model_core.proofs.PlacesChanged.{set-with_place, length_placed, placed-there, placed-elsewhere}
-use Rattle.mark_laws.proofs.EntailedMarks.{same-place}
-use Rattle.merge_rules.specs.PairStanding.{acts_unseen}
+use Rattle.merge_rules.specs.PairFits.{acts_unseen}
 use Rattle.merge_rules.specs.Growth.{pair_growth}
 use Rattle.merge_rules.specs.KeptPairs.{edges_to, has_incoming, FitIsRight, PairIsRight, PairsAreRight, no_pair}
 use Rattle.merge_rules.specs.Inner.PairMoves.{fresh_pair, with_more, all_edges_added}
@@ -26,7 +26,7 @@ are-fresh_pair g = record {
   each = λ k below.
       subst (PairIsRight g k)
       (sym (all_added-at g.vertices (map fresh_pair g.vertices) k (omega (arith, below, length-map g.vertices fresh_pair)) ∙ ap (with_more (edges_to g.vertices k)) (at-map fresh_pair g.vertices k no_vertex)))
-      (let p : PairIsRight g k (with_more (edges_to g.vertices k) (fresh_pair (vertex_at g k))) = record { target = refl; standing = tt; unseen = tt; incoming = omega arith } in p);
+      (let p : PairIsRight g k (with_more (edges_to g.vertices k) (fresh_pair (vertex_at g k))) = record { target = refl; answer = tt; unseen = tt; incoming = omega arith } in p);
 }
 
 -- ---- one of them
@@ -49,23 +49,23 @@ module _ (g : EventGraph) (pairs : List KeptPair) (are : PairsAreRight g pairs) 
     each j below = by (j == k) refl where
       by : (c : Bool) → (j == k) ≡ c → PairIsRight g j (slice_index_or (with_place (λ p. y) k pairs) j no_pair)
       by true same =
-          subst (λ j. PairIsRight g j (slice_index_or (with_place (λ p. y) k pairs) j no_pair)) (sym (same-place j k same))
+          subst (λ j. PairIsRight g j (slice_index_or (with_place (λ p. y) k pairs) j no_pair)) (sym (eqb-true j k same))
           (subst (PairIsRight g k) (sym (placed-there (λ p. y) k pairs no_pair within)) here)
       by false apart = subst (PairIsRight g j) (sym (placed-elsewhere (λ p. y) k j pairs no_pair apart)) (are.each j below)
 
     still-are : PairsAreRight g (slice_set pairs k y)
     still-are = subst (PairsAreRight g) (sym (set-with_place (λ p. y) pairs k x y within at refl)) (record { long = length_placed (λ p. y) k pairs ∙ are.long; each = each })
 
-  -- its standing is known now, or whether it acts unseen
-  pub are-asked : (s : PairAnswer) → FitIsRight s (pair_growth g k) → PairsAreRight g (slice_set pairs k (let y : KeptPair = record x { standing = s } in y))
-  are-asked s tells = let was = pair-at in still-are (record x { standing = s }) (record { target = was.target; standing = tells; unseen = was.unseen; incoming = was.incoming })
+  -- its answer is known now, or whether it acts unseen
+  pub are-asked : (s : PairAnswer) → FitIsRight s (pair_growth g k) → PairsAreRight g (slice_set pairs k (let y : KeptPair = record x { answer = s } in y))
+  are-asked s right = let was = pair-at in still-are (record x { answer = s }) (record { target = was.target; answer = right; unseen = was.unseen; incoming = was.incoming })
 
   pub are-seen : (unseen : Bool) → unseen ≡ acts_unseen g (vertex_at g k) → PairsAreRight g (slice_set pairs k (let y : KeptPair = record x { unseen = Some unseen } in y))
-  are-seen unseen is = let was = pair-at in still-are (record x { unseen = Some unseen }) (record { target = was.target; standing = was.standing; unseen = is; incoming = was.incoming })
+  are-seen unseen is = let was = pair-at in still-are (record x { unseen = Some unseen }) (record { target = was.target; answer = was.answer; unseen = is; incoming = was.incoming })
 
   -- whether an edge leads there
-  pub led-told : nat_lt 0 x.incoming ≡ has_incoming g k
-  led-told = by (some_or_none x.incoming) where
+  pub incoming-any : nat_lt 0 x.incoming ≡ has_incoming g k
+  incoming-any = by (some_or_none x.incoming) where
     some_or_none : (n : ℕ) → (0 < n) ⊎ (n ≡ 0)
     some_or_none zero = inr refl
     some_or_none (suc n) = inl (omega arith)

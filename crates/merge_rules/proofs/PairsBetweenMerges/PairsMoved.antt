@@ -19,7 +19,7 @@ use Rattle.model_core.specs.Rules.Merge.{cancels, is_cancelling, is_watched_vert
 use Rattle.model_core.proofs.Images.{map-remove}
 use Rattle.run_laws.proofs.MappedVertices.{with_mapped, WatchedAreApart}
 use Rattle.merge_rules.specs.KeptPairs.{UnseenIsRight}
-use Rattle.merge_rules.specs.PairStanding.{target_at_once, acts_unseen, pair_conditions, pair_fits}
+use Rattle.merge_rules.specs.PairFits.{target_at_once, acts_unseen, pair_conditions, pair_fits}
 
 -- ---- tests of lists
 
@@ -41,9 +41,9 @@ get-map f (x ∷ xs) zero = refl
 get-map f (x ∷ xs) (suc k) = get-map f xs k
 
 -- an answer that says whether one vertex acts unseen is right of another that acts unseen where the first does
-pub still_told : (told : Option Bool) (g h : EventGraph) (v w : EventVertex) → acts_unseen h w ≡ acts_unseen g v → UnseenIsRight told g v → UnseenIsRight told h w
-still_told None g h v w same tells = tt
-still_told (Some unseen) g h v w same tells = tells ∙ sym same
+pub unseen-stays : (unseen : Option Bool) (g h : EventGraph) (v w : EventVertex) → acts_unseen h w ≡ acts_unseen g v → UnseenIsRight unseen g v → UnseenIsRight unseen h w
+unseen-stays None g h v w same right = tt
+unseen-stays (Some unseen) g h v w same right = right ∙ sym same
 
 -- ---- the plain urgent edge of a vertex whose edges lead elsewhere
 
@@ -143,8 +143,8 @@ module _ (g : EventGraph) (f : ℕ → ℕ) (vertices : List EventVertex) where
     watched-alike : (x : ℕ) → Live x → is_watched_vertex h (f x) ≡ is_watched_vertex g x
     watched-alike x live = any-alike (watched_renumbered f) (WatchedAreApart Live) (watches x) (watches (f x)) one g.watch watched where
       one : (w : Watched) → WatchedAreApart Live w → watches (f x) (watched_renumbered f w) ≡ watches x w
-      one (WatchedVariable v) told = refl
-      one (WatchedVertex v) told = apart v x told live
+      one (WatchedVariable v) unseen = refl
+      one (WatchedVertex v) unseen = apart v x unseen live
 
     cancels-alike : (x : ℕ) → Live x → (es : List EventEdge) → AllByRecursion (λ (e : EventEdge). Live e.target) es → list_any (cancels (f x)) (map (edge_renumbered f) es) ≡ list_any (cancels x) es
     cancels-alike x live = any-alike (edge_renumbered f) (λ (e : EventEdge). Live e.target) (cancels x) (cancels (f x)) (λ e there. ap (λ b. is_cancelling e.kind && b) (apart e.target x there live))

@@ -36,24 +36,24 @@ found-anywhere n m (e ∷ es) = one (is_plain e) (found-anywhere (n + 1) (m + 1)
 
 -- after edges that aren't urgent the plain urgent edge is the one that it is without them
 module _ (ys : List EventEdge) where
-  count-behind : (xs : List EventEdge) → AllByRecursion (λ e. is_urgent e ≡ false) xs → count_by is_urgent (xs ++ ys) ≡ count_by is_urgent ys
-  count-behind [] calm = refl
-  count-behind (x ∷ xs) calm =
+  count-after : (xs : List EventEdge) → AllByRecursion (λ e. is_urgent e ≡ false) xs → count_by is_urgent (xs ++ ys) ≡ count_by is_urgent ys
+  count-after [] calm = refl
+  count-after (x ∷ xs) calm =
       let here : count_by is_urgent (x ∷ (xs ++ ys)) ≡ cond (is_urgent x) 1 0 + count_by is_urgent (xs ++ ys) = sum_by-cons (λ e. cond (is_urgent e) 1 0) x (xs ++ ys) in
       let aside : cond (is_urgent x) 1 0 ≡ 0 = ap (λ b. cond {A = ℕ} b 1 0) calm.0 in
-      let later = count-behind xs calm.1 in
+      let later = count-after xs calm.1 in
       omega (arith, here, aside, later)
 
-  found-behind : (n : ℕ) (xs : List EventEdge) → AllByRecursion (λ e. is_urgent e ≡ false) xs → is_some (position_from is_plain n (xs ++ ys)) ≡ is_some (position_from is_plain n ys)
-  found-behind n [] calm = refl
-  found-behind n (x ∷ xs) calm =
+  found-after : (n : ℕ) (xs : List EventEdge) → AllByRecursion (λ e. is_urgent e ≡ false) xs → is_some (position_from is_plain n (xs ++ ys)) ≡ is_some (position_from is_plain n ys)
+  found-after n [] calm = refl
+  found-after n (x ∷ xs) calm =
       ap (λ b. is_some (cond (b && is_literal_true x.condition) (Some n) (position_from is_plain (n + 1) (xs ++ ys)))) calm.0
-      ∙ found-behind (n + 1) xs calm.1 ∙ found-anywhere (n + 1) n ys
+      ∙ found-after (n + 1) xs calm.1 ∙ found-anywhere (n + 1) n ys
 
-  plain-behind : (xs : List EventEdge) → AllByRecursion (λ e. is_urgent e ≡ false) xs → is_some (cond (count_by is_urgent (xs ++ ys) == 1) (position_from is_plain 0 (xs ++ ys)) None) ≡ is_some (cond (count_by is_urgent ys == 1) (position_from is_plain 0 ys) None)
-  plain-behind xs calm =
+  plain-after : (xs : List EventEdge) → AllByRecursion (λ e. is_urgent e ≡ false) xs → is_some (cond (count_by is_urgent (xs ++ ys) == 1) (position_from is_plain 0 (xs ++ ys)) None) ≡ is_some (cond (count_by is_urgent ys == 1) (position_from is_plain 0 ys) None)
+  plain-after xs calm =
       some_if (count_by is_urgent (xs ++ ys) == 1) (position_from is_plain 0 (xs ++ ys))
-      ∙ ap₂ (λ n b. (n == 1) && b) (count-behind xs calm) (found-behind 0 xs calm)
+      ∙ ap₂ (λ n b. (n == 1) && b) (count-after xs calm) (found-after 0 xs calm)
       ∙ sym (some_if (count_by is_urgent ys == 1) (position_from is_plain 0 ys))
 
 -- the vertex at a place loses its plain urgent edge
@@ -78,7 +78,7 @@ plain_gone g first second holds =
     let b = vertex_at g second in
     let p = (conditions_hold g first second holds).edge in
     let none : has_plain b ≡ false = none-some (plain_urgent b) (every-holds (merge_conditions g first second) holds).1.0 in
-    ap has_plain (joined_is a b second p) ∙ plain-behind b.edges (p.before ++ p.after) p.calm ∙ none
+    ap has_plain (joined_is a b second p) ∙ plain-after b.edges (p.before ++ p.after) p.calm ∙ none
 
 pub one_urgent_less : (g : EventGraph) (first second : ℕ) → first_failed (merge_conditions g first second) ≡ None
     → (length (merged g first second).vertices ≡ length g.vertices) × (suc (plain_count (merged g first second).vertices) ≡ plain_count g.vertices)

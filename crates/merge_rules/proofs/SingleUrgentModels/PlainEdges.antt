@@ -4,13 +4,13 @@ use Rattle.std.specs.Prelude.{count_by}
 use Rattle.std.proofs.lemmas.List.Sums.{sum_by-cons, sum_by-append}
 use Rattle.std.specs.List.{AllByRecursion, remove, position_from}
 use Rattle.std.specs.Option.{option_map_or, option_and_then}
+use Rattle.std.proofs.lemmas.Bool.{eqb-true}
 use Rattle.model_core.specs.EventGraph.{EventVertex, EventEdge, EdgeKind, Urgent, Expression, Truth, delay_given, has_drawn_delay, is_drawn}
 use Rattle.model_core.specs.Rules.Settle.{is_literal_true}
 use Rattle.model_core.specs.Rules.UrgentEdges.{is_urgent, is_urgent_kind, is_plain, plain_urgent, plain_urgent_edge}
 use Rattle.model_core.specs.Rules.Merge.{leads_to, values_at_once, other_edges}
 use Rattle.model_core.proofs.BothTrue.{and_first, and_second}
 use Rattle.model_core.proofs.EachOne.{every-joined}
-use Rattle.mark_laws.proofs.EntailedMarks.{same-place}
 use Rattle.merge_rules.proofs.OneStepForTwo.EdgesAside.{urgent_edge}
 
 -- ---- the place of the first that passes a test
@@ -71,20 +71,20 @@ one_counted test before x after e passes =
 
 -- ---- the plain urgent edge
 
-kind_told : (kind : EdgeKind) → is_urgent_kind kind ≡ true → kind ≡ Urgent
-kind_told Urgent e = refl
-kind_told kind e = cc
+urgent_kind-is : (kind : EdgeKind) → is_urgent_kind kind ≡ true → kind ≡ Urgent
+urgent_kind-is Urgent e = refl
+urgent_kind-is kind e = cc
 
-condition_told : (c : Expression) → is_literal_true c ≡ true → c ≡ Truth true
-condition_told (Truth true) e = refl
-condition_told c e = cc
+literal_true-is : (c : Expression) → is_literal_true c ≡ true → c ≡ Truth true
+literal_true-is (Truth true) e = refl
+literal_true-is c e = cc
 
-edge_told : (e : EventEdge) (second : ℕ) → is_plain e ≡ true → leads_to second e ≡ true → e ≡ urgent_edge second e.values
-edge_told e second plain leads = λ i. record {
-  target = same-place e.target second leads i;
+plain_edge-is : (e : EventEdge) (second : ℕ) → is_plain e ≡ true → leads_to second e ≡ true → e ≡ urgent_edge second e.values
+plain_edge-is e second plain leads = λ i. record {
+  target = eqb-true e.target second leads i;
   values = e.values;
-  condition = condition_told e.condition (and_second (is_urgent e) _ plain) i;
-  kind = kind_told e.kind (and_first (is_urgent e) _ plain) i;
+  condition = literal_true-is e.condition (and_second (is_urgent e) _ plain) i;
+  kind = urgent_kind-is e.kind (and_first (is_urgent e) _ plain) i;
 }
 
 -- the plain urgent edge of a, which leads to the second vertex, among the others
@@ -114,7 +114,7 @@ plain_at a second place e is there leads =
     let same : f.element ≡ e = cc in
     let plain : is_plain e ≡ true = subst (λ e. is_plain e ≡ true) same f.passes in
     let r = around a.edges place e there in
-    let edge_is = edge_told e second plain leads in
+    let edge_is = plain_edge-is e second plain leads in
     record {
       place = place;
       values = e.values;
@@ -126,7 +126,7 @@ plain_at a second place e is there leads =
       rest = r.rest;
       carries = ap (λ o. option_map_or (λ (e : EventEdge). e.values) (option_and_then (slice_get a.edges) o) []) is ∙ ap (λ o. option_map_or (λ (e : EventEdge). e.values) o []) there;
       others = ap (λ o. option_map_or (remove a.edges) o a.edges) is ∙ r.rest;
-      calm = one_counted is_urgent r.before e r.after (ap (count_by is_urgent) (sym r.whole) ∙ same-place (count_by is_urgent a.edges) 1 once) (and_first (is_urgent e) _ plain);
+      calm = one_counted is_urgent r.before e r.after (ap (count_by is_urgent) (sym r.whole) ∙ eqb-true (count_by is_urgent a.edges) 1 once) (and_first (is_urgent e) _ plain);
     }
 
 pub plain_edge_of : (a : EventVertex) (second : ℕ) → option_map_or (leads_to second) (plain_urgent_edge a) false ≡ true → PlainEdge a second
@@ -146,7 +146,7 @@ plain_undrawn a place is e there =
     let offset_is : f.offset ≡ place = (let o = f.offset_is in omega (arith, o)) in
     let same_edge : Some f.element ≡ Some e = sym f.there ∙ (ap (slice_get a.edges) offset_is ∙ there) in
     let same : f.element ≡ e = cc in
-    ap (λ kind. option_map_or is_drawn (delay_given kind) false) (kind_told e.kind (and_first (is_urgent e) _ (subst (λ e. is_plain e ≡ true) same f.passes)))
+    ap (λ kind. option_map_or is_drawn (delay_given kind) false) (urgent_kind-is e.kind (and_first (is_urgent e) _ (subst (λ e. is_plain e ≡ true) same f.passes)))
 
 pub is_there : {A : Type 0} (xs : List A) (k : ℕ) (x : A) → slice_get xs k ≡ Some x → k < length xs
 is_there [] k x e = cc

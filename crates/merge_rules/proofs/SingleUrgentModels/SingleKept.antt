@@ -42,13 +42,13 @@ module _ (g : EventGraph) where
       both_hold (apart v) (list_all apart (with_place f k vs)) (and_first (apart v) (list_all apart vs) all) (apart_placed f k vs here (and_second (apart v) (list_all apart vs) all))
 
   -- edges that aren't urgent add no condition
-  conditions_behind : (xs ys : List EventEdge) → AllByRecursion (λ e. is_urgent e ≡ false) xs → urgent_conditions (xs ++ ys) ≡ urgent_conditions ys
-  conditions_behind [] ys calm = refl
-  conditions_behind (x ∷ xs) ys (aside, calm) = ap (λ b. conditions (cond b (x ∷ filter is_urgent (xs ++ ys)) (filter is_urgent (xs ++ ys)))) aside ∙ conditions_behind xs ys calm
+  conditions-after : (xs ys : List EventEdge) → AllByRecursion (λ e. is_urgent e ≡ false) xs → urgent_conditions (xs ++ ys) ≡ urgent_conditions ys
+  conditions-after [] ys calm = refl
+  conditions-after (x ∷ xs) ys (aside, calm) = ap (λ b. conditions (cond b (x ∷ filter is_urgent (xs ++ ys)) (filter is_urgent (xs ++ ys)))) aside ∙ conditions-after xs ys calm
 
   apart_joined : (a b : EventVertex) (second : ℕ) → PlainEdge a second → apart b ≡ true → apart (merged_with b a) ≡ true
   apart_joined a b second p clear =
-      ap apart (joined_is a b second p) ∙ ap (each_pair (exclusive g)) (conditions_behind (p.before ++ p.after) b.edges p.calm) ∙ clear
+      ap apart (joined_is a b second p) ∙ ap (each_pair (exclusive g)) (conditions-after (p.before ++ p.after) b.edges p.calm) ∙ clear
 
   -- ---- a drop
 

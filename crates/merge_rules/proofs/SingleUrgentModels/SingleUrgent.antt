@@ -2,6 +2,7 @@
 use Rattle.std.proofs.Common.{◌≡◌, ℕ, zero, suc, ◌^◌, ◌≤◌, ℤ, pos, Bool, true, false, cond, ◌&&◌, IsTrue, List, [], ◌∷◌, length, map, filter, slice_index_or, Ok, refl, ◌∙◌, ap, subst, arith}
 use Rattle.std.proofs.lemmas.Int.{ints}
 use Rattle.std.specs.List.{list_all, AllByRecursion}
+use Rattle.sig_base.proofs.Tests.{not_both}
 use Rattle.model_core.specs.declared.model.Kind.TheVariants as kinds
 use Rattle.model_core.specs.EventGraph.{EventGraph, Variable, Expression, EventVertex, EventEdge, EdgeKind, Schedule, Urgent, CancelNext, CancelEqual, CancelAll}
 use Rattle.model_core.specs.Run.State.{State, in_range}
@@ -22,11 +23,8 @@ NeverBoth g = (s : State) (clk : ℕ) (a b : Expression) → IsTrue (in_range g 
 one_is : (x : ℤ) → is_one x ≡ true → x ≡ pos 1
 one_is x e = grind (arith, ints)
 
-urgent_told : (kind : EdgeKind) → kind ≡ Urgent → is_urgent_kind kind ≡ true
-urgent_told kind e = ap is_urgent_kind e
-
-not_both : (b : Bool) → b ≡ false → b ≡ true → ⊥
-not_both b e h = cc
+is_urgent_kind-true : (kind : EdgeKind) → kind ≡ Urgent → is_urgent_kind kind ≡ true
+is_urgent_kind-true kind e = ap is_urgent_kind e
 
 abbrev conditions : List EventEdge → List Expression
 conditions es = map (λ (e : EventEdge). e.condition) es
@@ -46,7 +44,7 @@ module _ (g : EventGraph) (never : NeverBoth g) (s : State) (inside : IsTrue (in
         let both : (exclusive g e.condition f.condition && list_all (exclusive g e.condition) (urgent_conditions es)) ≡ true = subst (λ b. list_all (exclusive g e.condition) (conditions (cond b (f ∷ filter is_urgent es) (filter is_urgent es))) ≡ true) is apart in
         ((λ too. never s clk e.condition f.condition inside early keeps.condition here.condition (and_first (exclusive g e.condition f.condition) _ both) (fired e fires) (fired f too)), later (and_second (exclusive g e.condition f.condition) _ both))
     tested false is apart later =
-        ((λ too. not_both (is_urgent f) is (urgent_told f.kind too.0)), later (subst (λ b. list_all (exclusive g e.condition) (conditions (cond b (f ∷ filter is_urgent es) (filter is_urgent es))) ≡ true) is apart))
+        ((λ too. not_both (is_urgent f) (is_urgent_kind-true f.kind too.0) is), later (subst (λ b. list_all (exclusive g e.condition) (conditions (cond b (f ∷ filter is_urgent es) (filter is_urgent es))) ≡ true) is apart))
 
   pub exclusive_edges : (es : List EventEdge) → AllByRecursion Keeps es → each_pair (exclusive g) (urgent_conditions es) ≡ true → Exclusive g s clk es
   exclusive_edges [] all apart = tt
@@ -56,7 +54,7 @@ module _ (g : EventGraph) (never : NeverBoth g) (s : State) (inside : IsTrue (in
         let both : (list_all (exclusive g e.condition) (urgent_conditions es) && each_pair (exclusive g) (urgent_conditions es)) ≡ true = subst (λ b. each_pair (exclusive g) (conditions (cond b (e ∷ filter is_urgent es) (filter is_urgent es))) ≡ true) is apart in
         ((λ fires. none_beside e here fires es all (and_first (list_all (exclusive g e.condition) (urgent_conditions es)) _ both)), later (and_second (list_all (exclusive g e.condition) (urgent_conditions es)) _ both))
     tested false is apart later =
-        ((λ fires. absurd (not_both (is_urgent e) is (urgent_told e.kind fires.0))), later (subst (λ b. each_pair (exclusive g) (conditions (cond b (e ∷ filter is_urgent es) (filter is_urgent es))) ≡ true) is apart))
+        ((λ fires. absurd (not_both (is_urgent e) (is_urgent_kind-true e.kind fires.0) is)), later (subst (λ b. each_pair (exclusive g) (conditions (cond b (e ∷ filter is_urgent es) (filter is_urgent es))) ≡ true) is apart))
 
 -- ---- vertices of a model that keeps its rules
 

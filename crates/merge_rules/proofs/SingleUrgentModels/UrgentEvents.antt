@@ -15,7 +15,7 @@ use Rattle.model_core.proofs.EachOne.{every-append, every-both}
 use Rattle.run_laws.proofs.MappedPending.{next_among-every}
 use Rattle.run_laws.proofs.MadeEntries.{SchedulesOnly, IsTaken, StaysTrue, every-stays, pending-is, treat_edge-stays, edges-stay}
 use Rattle.run_laws.proofs.OnTime.{NoneEarlier}
-use Rattle.merge_rules.proofs.SingleUrgentModels.InsertedEntry.{Inserted, front, behind, every-inserted, DueBefore, next_entry-inserted}
+use Rattle.merge_rules.proofs.SingleUrgentModels.InsertedEntry.{Inserted, front, further, every-inserted, DueBefore, next_entry-inserted}
 
 -- ---- at most one urgent event
 
@@ -37,7 +37,7 @@ urgent-cases t (e ∷ es) (inr (now, all)) = inr (e, es, front es, now, all)
 urgent-cases t (e ∷ es) (inl (here, urgent)) = more (urgent-cases t es urgent) where
   more : AllByRecursion NotUrgent es ⊎ ((b : Entry) × (xs : List Entry) × Inserted b xs es × UrgentNow t b × AllByRecursion NotUrgent xs) → (NotUrgent e × AllByRecursion NotUrgent es) ⊎ ((b : Entry) × (xs : List Entry) × Inserted b xs (e ∷ es) × UrgentNow t b × AllByRecursion NotUrgent xs)
   more (inl all) = inl (here, all)
-  more (inr (b, xs, i, now, all)) = inr (b, e ∷ xs, behind e i, now, (here, all))
+  more (inr (b, xs, i, now, all)) = inr (b, e ∷ xs, further e i, now, (here, all))
 
 waits-due : (clk t p : ℕ) → clk ≤ t → 0 < p → (nat_lt clk t || ((clk == t) && nat_lt 0 p)) ≡ true
 waits-due clk t p late some = grind (arith, nat_tests)

@@ -25,8 +25,8 @@ uncounted (e ∷ es) numbers = uncounted es (lowered_at (edge_reads e) numbers)
 
 -- one of the counted edges reads the variable: the numbers say that of so many variables, and a walk over the edges of others
 abbrev pub is_read_by_counts : ℕ → List ℕ → List EventEdge → List EventEdge → ℕ → Bool
-is_read_by_counts variables numbers before behind v =
-    cond (nat_lt v variables) (nat_lt 0 (slice_index numbers v)) (list_any (reads_it v) before || list_any (reads_it v) behind)
+is_read_by_counts variables numbers before after v =
+    cond (nat_lt v variables) (nat_lt 0 (slice_index numbers v)) (list_any (reads_it v) before || list_any (reads_it v) after)
 
 -- an edge never faults, and draws no delay
 abbrev pub is_calm : EventGraph → EventEdge → Bool

@@ -21,7 +21,7 @@ AloneIsRight g gone false = unreached g ≡ []
 
 -- all that is known is right
 pub record IsProgress (g : EventGraph) (p : Progress) : Type 0 where
-  pub known : FactsAreRight g p.known
+  pub facts : FactsAreRight g p.facts
   pub counts : NothingCounted (length g.variables) p.counts
   pub reached : p.all_reached ≡ true → unreached g ≡ []
   pub pairs : PairsAreRight g p.pairs
@@ -29,6 +29,6 @@ pub record IsProgress (g : EventGraph) (p : Progress) : Type 0 where
 -- two vertices may be merged, and what is kept of pairs is that of the result already
 pub record IsMerging (g : EventGraph) (first second : ℕ) (p : Progress) : Type 0 where
   pub holds : first_failed (merge_conditions g first second) ≡ None
-  pub known : FactsAreRight g p.known
+  pub facts : FactsAreRight g p.facts
   pub counts : NothingCounted (length g.variables) p.counts
   pub pairs : PairsAreRight (merged g first second) p.pairs

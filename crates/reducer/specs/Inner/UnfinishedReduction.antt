@@ -14,7 +14,7 @@ use Rattle.reducer.specs.Inner.Progress.{IsProgress}
 -- the model is valid, and what is known of it is right
 pub record IsUnfinishedReduction (u : UnfinishedReduction) : Type 0 where
   pub valid : IsValid (graph_of u.model)
-  pub known : IsProgress (graph_of u.model) u.progress
+  pub progress : IsProgress (graph_of u.model) u.progress
 
 -- ---- the application that a rule gives of a graph, if there is one
 
@@ -34,14 +34,14 @@ MadeByRule rule made old new = MadeAndNoted (rule (graph_of old.model)) made (gr
 -- and what is known then is right
 pub record ByRule (rule : EventGraph → Option RuleApplication) (some : Bool) (old new : UnfinishedReduction) : Type 0 where
   pub made : MadeByRule rule some old new
-  pub known : IsProgress (graph_of new.model) new.progress
+  pub progress : IsProgress (graph_of new.model) new.progress
 
 -- it is made and noted, if there is one, and maybe the drop after it; and what is known then is right
 pub record ByRuleThenDrop (rule : EventGraph → Option RuleApplication) (some : Bool) (old new : UnfinishedReduction) : Type 0 where
   pub made : MadeThenDrop rule some (graph_of old.model) (graph_of new.model) (map application_of old.applications.items) (map application_of new.applications.items)
-  pub known : IsProgress (graph_of new.model) new.progress
+  pub progress : IsProgress (graph_of new.model) new.progress
 
 -- two vertices are merged, and the second one is dropped and that noted where it can't be reached then
 pub record IsMerged (first second : ℕ) (old new : UnfinishedReduction) : Type 0 where
   pub left : DropMayFollow (merged (graph_of old.model) first second) (graph_of new.model) (map application_of old.applications.items) (map application_of new.applications.items)
-  pub known : IsProgress (graph_of new.model) new.progress
+  pub progress : IsProgress (graph_of new.model) new.progress

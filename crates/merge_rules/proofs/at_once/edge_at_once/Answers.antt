@@ -5,7 +5,7 @@ use Rattle.std.proofs.lemmas.Bool.Decides.{nat_tests}
 use Rattle.std.specs.Option.{option_and_then}
 use Rattle.model_core.specs.declared.vertex.Edge.{Edge}
 use Rattle.model_core.specs.Code.Views.{vertex_of, edge_of}
-use Rattle.merge_rules.proofs.MergedText.LimitsTold.{seen_at}
+use Rattle.merge_rules.proofs.MergedText.LimitsTested.{seen_at}
 use Rattle.merge_rules.proofs.at_once.edge_at_once.Goals as goal
 
 past_end : {A B : Type 0} (view : A → B) (xs : List A) (k : ℕ) → length xs ≤ k → None ≡ slice_get (map view xs) k
@@ -15,8 +15,8 @@ past_end view (x ∷ xs) (suc k) past = past_end view xs k (omega (arith, past))
 
 -- what is read at a place of a list, through a view
 read_through : {A B R : Type 0} (view : A → B) (now : R → A) (xs : List A) (k : ℕ) (r : Option R) → is_some r ≡ nat_lt k (length xs) → IfSome r (λ x. now x ≡ get_or xs k (now x)) → option_map (λ x. view (now x)) r ≡ slice_get (map view xs) k
-read_through view now xs k None known is = past_end view xs k (grind (arith, nat_tests, known))
-read_through view now xs k (Some x) known is = sym (seen_at view xs k (now x) (grind (arith, nat_tests, known)) is)
+read_through view now xs k None within is = past_end view xs k (grind (arith, nat_tests, within))
+read_through view now xs k (Some x) within is = sym (seen_at view xs k (now x) (grind (arith, nat_tests, within)) is)
 
 pub returns-in-Some : goal.returns-in-Some
 returns-in-Some c =

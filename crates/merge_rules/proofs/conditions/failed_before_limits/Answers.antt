@@ -35,8 +35,8 @@ abbrev first_condition : EventGraph → ℕ → ℕ → Bool
 first_condition g first second = nat_lt first (length g.vertices) && nat_lt second (length g.vertices) && not (first == second) && leads second (vertex_at g first)
 
 -- where it is known what each of its four parts is
-parts_told : (p q r s : Bool) {w x y z : Bool} → p ≡ w → q ≡ x → r ≡ y → s ≡ z → p && q && r && s ≡ w && x && y && z
-parts_told p q r s is_p is_q is_r is_s = λ i. is_p i && is_q i && is_r i && is_s i
+four_joined : (p q r s : Bool) {w x y z : Bool} → p ≡ w → q ≡ x → r ≡ y → s ≡ z → p && q && r && s ≡ w && x && y && z
+four_joined p q r s is_p is_q is_r is_s = λ i. is_p i && is_q i && is_r i && is_s i
 
 same_place : (i k : ℕ) → i ≡ k → not (i == k) ≡ false
 same_place i k e = grind (arith, nat_tests)
@@ -47,28 +47,28 @@ other_place i k e = grind (arith, nat_tests)
 module _ (m : Model) (first second : ℕ) (seen : List Vertex) (same : seen ≡ m.vertices) where
   -- the first vertex is missing
   absent_first : false ≡ nat_lt first (length seen) → first_condition (graph_of m) first second ≡ false
-  absent_first past = parts_told (nat_lt first (length (graph_of m).vertices)) (nat_lt second (length (graph_of m).vertices)) (not (first == second)) (leads second (vertex_at (graph_of m) first)) (counted m seen first false same past) refl refl refl
+  absent_first past = four_joined (nat_lt first (length (graph_of m).vertices)) (nat_lt second (length (graph_of m).vertices)) (not (first == second)) (leads second (vertex_at (graph_of m) first)) (counted m seen first false same past) refl refl refl
 
   module _ (below : true ≡ nat_lt first (length seen)) where
     -- the second isn't
     absent_second : false ≡ nat_lt second (length seen) → first_condition (graph_of m) first second ≡ false
-    absent_second past = parts_told (nat_lt first (length (graph_of m).vertices)) (nat_lt second (length (graph_of m).vertices)) (not (first == second)) (leads second (vertex_at (graph_of m) first))
+    absent_second past = four_joined (nat_lt first (length (graph_of m).vertices)) (nat_lt second (length (graph_of m).vertices)) (not (first == second)) (leads second (vertex_at (graph_of m) first))
         (counted m seen first true same below) (counted m seen second false same past) refl refl
 
     module _ (a : Vertex) (is : a ≡ get_or seen first a) (second_below : true ≡ nat_lt second (length seen)) where
       -- they are one
       one_alone : first ≡ second → first_condition (graph_of m) first second ≡ false
-      one_alone e = parts_told (nat_lt first (length (graph_of m).vertices)) (nat_lt second (length (graph_of m).vertices)) (not (first == second)) (leads second (vertex_at (graph_of m) first))
+      one_alone e = four_joined (nat_lt first (length (graph_of m).vertices)) (nat_lt second (length (graph_of m).vertices)) (not (first == second)) (leads second (vertex_at (graph_of m) first))
           (counted m seen first true same below) (counted m seen second true same second_below) (same_place first second e) refl
 
       -- no plain urgent edge leads from the first to the second, or one does
       not_led : first ≢ second → false ≡ leads second (vertex_of a) → first_condition (graph_of m) first second ≡ false
-      not_led apart told = parts_told (nat_lt first (length (graph_of m).vertices)) (nat_lt second (length (graph_of m).vertices)) (not (first == second)) (leads second (vertex_at (graph_of m) first))
-          (counted m seen first true same below) (counted m seen second true same second_below) (other_place first second apart) (ap (leads second) (sym (there m seen first a same below is)) ∙ sym told)
+      not_led apart same_test = four_joined (nat_lt first (length (graph_of m).vertices)) (nat_lt second (length (graph_of m).vertices)) (not (first == second)) (leads second (vertex_at (graph_of m) first))
+          (counted m seen first true same below) (counted m seen second true same second_below) (other_place first second apart) (ap (leads second) (sym (there m seen first a same below is)) ∙ sym same_test)
 
       led : first ≢ second → true ≡ leads second (vertex_of a) → first_condition (graph_of m) first second ≡ true
-      led apart told = parts_told (nat_lt first (length (graph_of m).vertices)) (nat_lt second (length (graph_of m).vertices)) (not (first == second)) (leads second (vertex_at (graph_of m) first))
-          (counted m seen first true same below) (counted m seen second true same second_below) (other_place first second apart) (ap (leads second) (sym (there m seen first a same below is)) ∙ sym told)
+      led apart same_test = four_joined (nat_lt first (length (graph_of m).vertices)) (nat_lt second (length (graph_of m).vertices)) (not (first == second)) (leads second (vertex_at (graph_of m) first))
+          (counted m seen first true same below) (counted m seen second true same second_below) (other_place first second apart) (ap (leads second) (sym (there m seen first a same below is)) ∙ sym same_test)
 
 -- ---- the second condition
 
@@ -82,26 +82,26 @@ second_condition v w o b same is test = none_or_some (plain_urgent w) ∙ ap (λ
 -- ---- the exits
 
 -- the first that fails, where it is known what each of the first three is
-three_told : (g : EventGraph) (first second : ℕ) {x y z : Bool} → first_condition g first second ≡ x → is_none (plain_urgent (vertex_at g second)) ≡ y → single_urgent g ≡ z
+first_three : (g : EventGraph) (first second : ℕ) {x y z : Bool} → first_condition g first second ≡ x → is_none (plain_urgent (vertex_at g second)) ≡ y → single_urgent g ≡ z
     → first_failed (x ∷ y ∷ z ∷ drop 3 (take 7 (merge_conditions g first second))) ≡ first_failed (take 7 (merge_conditions g first second))
-three_told g first second a b c = λ i. first_failed (sym a i ∷ sym b i ∷ sym c i ∷ drop 3 (take 7 (merge_conditions g first second)))
+first_three g first second a b c = λ i. first_failed (sym a i ∷ sym b i ∷ sym c i ∷ drop 3 (take 7 (merge_conditions g first second)))
 
 pub returns-in_default-clause-failed : goal.returns-in_default-clause-failed
 returns-in_default-clause-failed t c =
     let g = graph_of c.args.model.now in
-    three_told g c.args.first c.args.second
+    first_three g c.args.first c.args.second
     (absent_first c.args.model.now c.args.first c.args.second c.as_slice-vertices.result.now c.as_slice-vertices.ensures c.in_default.ensures.lookup.0) refl refl
 
 pub returns-in_default-get-clause-failed : goal.returns-in_default-get-clause-failed
 returns-in_default-get-clause-failed t c =
     let g = graph_of c.args.model.now in
-    three_told g c.args.first c.args.second
+    first_three g c.args.first c.args.second
     (absent_second c.args.model.now c.args.first c.args.second c.as_slice-vertices.result.now c.as_slice-vertices.ensures c.in-Some.ensures.lookup.0 c.in_default-get.ensures.lookup.0) refl refl
 
 pub returns-then-first-second-clause-failed : goal.returns-then-first-second-clause-failed
 returns-then-first-second-clause-failed t c =
     let g = graph_of c.args.model.now in
-    three_told g c.args.first c.args.second
+    first_three g c.args.first c.args.second
     (elim c.then-first-second.branch [
       | then-first-second-via-then-first-second w ↦ one_alone c.args.model.now c.args.first c.args.second c.as_slice-vertices.result.now c.as_slice-vertices.ensures c.in-Some.ensures.lookup.0 c.in-Some.a.now c.in-Some.ensures.lookup.1 c.in-Some-get.ensures.lookup.0 w.if-first-second.true
       | then-first-second-via-else-first-second+then-not-leads_at_once w ↦ not_led c.args.model.now c.args.first c.args.second c.as_slice-vertices.result.now c.as_slice-vertices.ensures c.in-Some.ensures.lookup.0 c.in-Some.a.now c.in-Some.ensures.lookup.1 c.in-Some-get.ensures.lookup.0 w.if-first-second.false w.if-not-leads_at_once.ensures
@@ -110,14 +110,14 @@ returns-then-first-second-clause-failed t c =
 pub returns-then-is_some-clause-failed : goal.returns-then-is_some-clause-failed
 returns-then-is_some-clause-failed t c =
     let g = graph_of c.args.model.now in
-    three_told g c.args.first c.args.second
+    first_three g c.args.first c.args.second
     (led c.args.model.now c.args.first c.args.second c.as_slice-vertices.result.now c.as_slice-vertices.ensures c.in-Some.ensures.lookup.0 c.in-Some.a.now c.in-Some.ensures.lookup.1 c.in-Some-get.ensures.lookup.0 c.if-first-second.false c.if-not-leads_at_once.ensures)
     (second_condition (vertex_of c.in-Some-get.b.now) (vertex_at g c.args.second) c.plain_urgent.result true (there c.args.model.now c.as_slice-vertices.result.now c.args.second c.in-Some-get.b.now c.as_slice-vertices.ensures c.in-Some-get.ensures.lookup.0 c.in-Some-get.ensures.lookup.1) c.plain_urgent.ensures c.if-is_some.ensures) refl
 
 pub returns-then-not-single-clause-failed : goal.returns-then-not-single-clause-failed
 returns-then-not-single-clause-failed t c =
     let g = graph_of c.args.model.now in
-    three_told g c.args.first c.args.second
+    first_three g c.args.first c.args.second
     (led c.args.model.now c.args.first c.args.second c.as_slice-vertices.result.now c.as_slice-vertices.ensures c.in-Some.ensures.lookup.0 c.in-Some.a.now c.in-Some.ensures.lookup.1 c.in-Some-get.ensures.lookup.0 c.if-first-second.false c.if-not-leads_at_once.ensures)
     (second_condition (vertex_of c.in-Some-get.b.now) (vertex_at g c.args.second) c.plain_urgent.result false (there c.args.model.now c.as_slice-vertices.result.now c.args.second c.in-Some-get.b.now c.as_slice-vertices.ensures c.in-Some-get.ensures.lookup.0 c.in-Some-get.ensures.lookup.1) c.plain_urgent.ensures c.if-is_some.ensures)
     (sym c.requires.single ∙ c.if-not-single.true)
@@ -126,7 +126,7 @@ pub returns-clause-failed : goal.returns-clause-failed
 returns-clause-failed t c =
     let g = graph_of c.args.model.now in
     c.failed_later.ensures.failed
-    ∙ three_told g c.args.first c.args.second
+    ∙ first_three g c.args.first c.args.second
     (led c.args.model.now c.args.first c.args.second c.as_slice-vertices.result.now c.as_slice-vertices.ensures c.in-Some.ensures.lookup.0 c.in-Some.a.now c.in-Some.ensures.lookup.1 c.in-Some-get.ensures.lookup.0 c.if-first-second.false c.if-not-leads_at_once.ensures)
     (second_condition (vertex_of c.in-Some-get.b.now) (vertex_at g c.args.second) c.plain_urgent.result false (there c.args.model.now c.as_slice-vertices.result.now c.args.second c.in-Some-get.b.now c.as_slice-vertices.ensures c.in-Some-get.ensures.lookup.0 c.in-Some-get.ensures.lookup.1) c.plain_urgent.ensures c.if-is_some.ensures)
     (sym c.requires.single ∙ c.if-not-single.false)

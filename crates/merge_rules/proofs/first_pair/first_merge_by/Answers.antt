@@ -17,6 +17,6 @@ loop-first-preserved t c =
     let below : c.loop-first.first < length c.args.model.now.vertices = (let same = ap length c.as_slice-vertex-items.ensures in omega (arith, same, c.loop-first-test.true)) in
     record {
       found = none_here (merge_at g) c.merge_at-found.result (first_merge g) c.loop-first.first (length c.args.model.now.vertices) below c.merge_at-found.ensures.found (sym c.is_some.ensures ∙ c.if-is_some.false) c.loop-first.invariant.found;
-      known = c.merge_at-found.ensures.known;
+      facts = c.merge_at-found.ensures.facts;
       same = c.merge_at-found.ensures.same ∙ c.loop-first.invariant.same;
     }

@@ -8,6 +8,6 @@ use Rattle.merge_rules.proofs.first_pair.first_merge_by.Given as goal
 abbrev pub invariant-loop-first : goal.invariant-loop-first
 invariant-loop-first g l = record {
   found : first_from (merge_at (graph_of l.model)) l.first (length l.model.vertices) ≡ first_merge (graph_of l.model);
-  known : FactsAreRight (graph_of l.model) l.known;
+  facts : FactsAreRight (graph_of l.model) l.facts;
   same : l.readers ≡ l.initial.readers;
 }

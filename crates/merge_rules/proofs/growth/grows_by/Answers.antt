@@ -9,7 +9,7 @@ use Rattle.model_core.specs.Text.Canonical.{change_line}
 use Rattle.model_core.specs.Rules.Merge.{set_parameters}
 use Rattle.model_core.specs.Code.Views.{graph_of, expression_of}
 use Rattle.merge_rules.specs.Growth.{body_lines, bytes_added, bytes_set, capped}
-use Rattle.merge_rules.proofs.MergedText.LimitsTold.{first_among, second_among, urgent_there, gone_here, set_here, text_added, capped_sum}
+use Rattle.merge_rules.proofs.MergedText.LimitsTested.{first_among, second_among, urgent_there, gone_here, set_here, text_added, capped_sum}
 use Rattle.merge_rules.proofs.growth.grows_by.Goals as goal
 
 pub returns : goal.returns

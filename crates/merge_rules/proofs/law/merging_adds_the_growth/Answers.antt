@@ -1,4 +1,4 @@
-use Rattle.merge_rules.proofs.MergedText.LimitsTold.{text_grown}
+use Rattle.merge_rules.proofs.MergedText.LimitsTested.{text_grown}
 use Rattle.merge_rules.proofs.law.merging_adds_the_growth.Goals as goal
 
 pub returns : goal.returns

@@ -2,5 +2,5 @@
 use Rattle.model_core.specs.Code.Views.{graph_of}
 use Rattle.merge_rules.proofs.merging.merge.Goals as goal
 
-pub merge_measured-requires-clause-known : goal.merge_measured-requires-clause-known
-merge_measured-requires-clause-known c = c.nothing.ensures (graph_of c.args.model.now)
+pub merge_measured-requires-clause-facts : goal.merge_measured-requires-clause-facts
+merge_measured-requires-clause-facts c = c.nothing.ensures (graph_of c.args.model.now)

@@ -6,7 +6,7 @@ use Rattle.model_core.specs.Text.Canonical.{version_line, canonical}
 use Rattle.model_core.specs.Text.VersionNeeded.{needs_version_two}
 use Rattle.model_core.specs.Code.Views.{graph_of}
 use Rattle.model_core.specs.Rules.Merge.{merge_conditions, merged}
-use Rattle.merge_rules.proofs.MergedText.LimitsTold.{first_among, second_among, urgent_there, urgent_at}
+use Rattle.merge_rules.proofs.MergedText.LimitsTested.{first_among, second_among, urgent_there, urgent_at}
 use Rattle.model_core.specs.Rules.UrgentEdges.{single_urgent}
 use Rattle.merge_rules.proofs.ConditionsAsked.PairsFound.{front_holds}
 use Rattle.merge_rules.specs.FactsOfModel.{VersionIsRight, BodiesAreRight}
@@ -59,24 +59,24 @@ rest_of g h whole version rest is version_is same rest_is =
     let within = version_within h in
     (omega (arith, is, version_is, line, within), omega (arith, is, version_is, line, within, rest_is))
 
-pub overflow_sub-known : goal.overflow_sub-known
-overflow_sub-known c =
+pub overflow_sub-facts : goal.overflow_sub-facts
+overflow_sub-facts c =
     (leaving_measured (graph_of c.args.model.now) c.args.vertex c.args.target c.requires.holds c.args.second (2 ^ 64 - 1) c.merged_length-bytes.result c.find_body-body.result c.bytes_leaving-gone.result (omega arith) c.merged_length-bytes.ensures c.find_body-body.ensures.is c.bytes_leaving-gone.ensures).0
 
-pub overflow_sub-known-2 : goal.overflow_sub-known-2
-overflow_sub-known-2 c =
+pub overflow_sub-facts-2 : goal.overflow_sub-facts-2
+overflow_sub-facts-2 c =
     let g = graph_of c.args.model.now in
     let measured = leaving_measured g c.args.vertex c.args.target c.requires.holds c.args.second (2 ^ 64 - 1) c.merged_length-bytes.result c.find_body-body.result c.bytes_leaving-gone.result (omega arith) c.merged_length-bytes.ensures c.find_body-body.ensures.is c.bytes_leaving-gone.ensures in
     (rest_of g (merged_leaving c.args.second g c.args.vertex c.args.target) _ _ _ measured.1 (c.version_length-version.ensures ∙ ap (λ b. length (version_line b)) c.find_version.ensures.is) (version_left g c.args.vertex c.args.target c.requires.holds c.args.second) refl).0
 
-pub returns-clause-known : goal.returns-clause-known
-returns-clause-known c =
+pub returns-clause-facts : goal.returns-clause-facts
+returns-clause-facts c =
     let g = graph_of c.args.model.now in
     let holds = c.requires.holds in
     let result = merged_leaving c.args.second g c.args.vertex c.args.target in
     let measured = leaving_measured g c.args.vertex c.args.target holds c.args.second (2 ^ 64 - 1) c.merged_length-bytes.result c.find_body-body.result c.bytes_leaving-gone.result (omega arith) c.merged_length-bytes.ensures c.find_body-body.ensures.is c.bytes_leaving-gone.ensures in
     let body = leaving_body g c.args.vertex c.args.target holds c.args.second (2 ^ 64 - 1) c.find_body-body.result c.bytes_leaving-gone.result c.find_body-body.ensures.is c.bytes_leaving-gone.ensures in
-    let joined = are-joined g c.args.vertex c.args.target c.find_merged_body-merged_body.result c.find_version.new.self.bodies c.find_merged_body-merged_body.ensures.is c.find_version.ensures.known.bodies in
+    let joined = are-joined g c.args.vertex c.args.target c.find_merged_body-merged_body.result c.find_version.new.self.bodies c.find_merged_body-merged_body.ensures.is c.find_version.ensures.facts.bodies in
     let bodies = are-left c.args.second g c.args.vertex c.args.target _ c.put.new.self body.1 (subst (BodiesAreRight (merged g c.args.vertex c.args.target)) (sym c.put.ensures) joined) in
     let done = c.in_ok-put_together.ensures.done in
     let version = version_left g c.args.vertex c.args.target holds c.args.second in
@@ -109,4 +109,4 @@ pub grows_by-grows-requires-clause-holds : goal.grows_by-grows-requires-clause-h
 grows_by-grows-requires-clause-holds c = front_holds 7 (merge_conditions (graph_of c.args.model.now) c.args.vertex c.args.target) c.requires.holds
 
 pub merged_length-bytes-requires-clause-measured : goal.merged_length-bytes-requires-clause-measured
-merged_length-bytes-requires-clause-measured c = c.text_length.ensures.measured (graph_of c.args.model.now) c.find_version.ensures.known
+merged_length-bytes-requires-clause-measured c = c.text_length.ensures.measured (graph_of c.args.model.now) c.find_version.ensures.facts

@@ -3,7 +3,7 @@ use Rattle.std.proofs.Common.{◌≡◌, ◌∙◌, ℕ, List, length, ap, arith
 use Rattle.std.proofs.lemmas.List.{length-map}
 use Rattle.model_core.specs.Rules.Merge.{set_parameters, values_at_once}
 use Rattle.model_core.specs.Code.Views.{vertex_of, change_of}
-use Rattle.merge_rules.proofs.MergedText.LimitsTold.{changes_many}
+use Rattle.merge_rules.proofs.MergedText.LimitsTested.{changes_many}
 use Rattle.merge_rules.proofs.within_limits.changes_together.Goals as goal
 
 pub returns : goal.returns

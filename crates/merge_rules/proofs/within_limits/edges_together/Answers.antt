@@ -2,7 +2,7 @@
 use Rattle.std.proofs.Common.{arith}
 use Rattle.std.proofs.lemmas.List.{length-map}
 use Rattle.model_core.specs.Code.Views.{vertex_of, edge_of}
-use Rattle.merge_rules.proofs.MergedText.LimitsTold.{edges_many}
+use Rattle.merge_rules.proofs.MergedText.LimitsTested.{edges_many}
 use Rattle.merge_rules.proofs.SingleUrgentModels.PlainEdges.{plain_within}
 use Rattle.merge_rules.proofs.within_limits.edges_together.Goals as goal
 

@@ -3,7 +3,7 @@ use Rattle.sig_base.specs.declared.limits.TheConstants.{TEXT_MAX}
 use Rattle.model_core.specs.Text.Canonical.{canonical}
 use Rattle.model_core.specs.Rules.Merge.{merged}
 use Rattle.model_core.specs.Code.Views.{graph_of}
-use Rattle.merge_rules.proofs.MergedText.LimitsTold.{capped_test}
+use Rattle.merge_rules.proofs.MergedText.LimitsTested.{capped_test}
 use Rattle.merge_rules.proofs.within_limits.has_short_text.Goals as goal
 
 pub returns : goal.returns

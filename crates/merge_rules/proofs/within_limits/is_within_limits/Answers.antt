@@ -4,7 +4,7 @@ use Rattle.sig_base.specs.declared.limits.TheConstants.{TEXT_MAX}
 use Rattle.model_core.specs.Text.Canonical.{canonical}
 use Rattle.model_core.specs.Rules.Merge.{merged}
 use Rattle.model_core.specs.Code.Views.{graph_of}
-use Rattle.merge_rules.proofs.MergedText.LimitsTold.{second_among}
+use Rattle.merge_rules.proofs.MergedText.LimitsTested.{second_among}
 use Rattle.merge_rules.proofs.within_limits.is_within_limits.Goals as goal
 
 pub find_body-body-requires-clause-there : goal.find_body-body-requires-clause-there

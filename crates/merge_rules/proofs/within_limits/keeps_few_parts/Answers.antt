@@ -1,4 +1,4 @@
-use Rattle.merge_rules.proofs.MergedText.LimitsTold.{first_among, second_among, few_here}
+use Rattle.merge_rules.proofs.MergedText.LimitsTested.{first_among, second_among, few_here}
 use Rattle.merge_rules.proofs.within_limits.keeps_few_parts.Goals as goal
 
 pub returns : goal.returns

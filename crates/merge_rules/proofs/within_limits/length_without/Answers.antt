@@ -5,7 +5,7 @@ use Rattle.model_core.specs.Rules.Prune.{pruned}
 use Rattle.model_core.specs.Code.Views.{graph_of}
 use Rattle.merge_rules.specs.FactsOfModel.{TextLengthIsRight}
 use Rattle.merge_rules.specs.Growth.{bytes_gone, capped}
-use Rattle.merge_rules.proofs.MergedText.LimitsTold.{first_among, urgent_there, gone_within, without_here, part_taken}
+use Rattle.merge_rules.proofs.MergedText.LimitsTested.{first_among, urgent_there, gone_within, without_here, part_taken}
 use Rattle.merge_rules.proofs.within_limits.length_without.Goals as goal
 
 pub overflow_sub-result : goal.overflow_sub-result

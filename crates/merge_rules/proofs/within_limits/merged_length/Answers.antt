@@ -5,7 +5,7 @@ use Rattle.model_core.specs.Rules.Merge.{merged}
 use Rattle.model_core.specs.Code.Views.{graph_of}
 use Rattle.merge_rules.specs.Growth.{bytes_added, bytes_gone}
 use Rattle.merge_rules.specs.declared.growth.Growth.{Growth}
-use Rattle.merge_rules.proofs.MergedText.LimitsTold.{capped_sum, text_grown, gone_within}
+use Rattle.merge_rules.proofs.MergedText.LimitsTested.{capped_sum, text_grown, gone_within}
 use Rattle.merge_rules.proofs.within_limits.merged_length.Goals as goal
 
 pub length_without-requires-clause-gone : goal.length_without-requires-clause-gone

@@ -12,7 +12,7 @@ loop-underway-smaller c = leaves_less c.later_rules_leave_edges.ensures c.chains
 pub loop-underway-preserved : goal.loop-underway-preserved
 loop-underway-preserved c = record {
   led = led_further c.later_rules_leave_edges.ensures c.chains_keep_the_meaning.ensures.one_valid _ _ _ _ _ _ _ c.if-branch.true c.loop-underway.invariant.led c.in_ok-apply_one.ensures.made;
-  known = c.in_ok-apply_one.ensures.known;
+  progress = c.in_ok-apply_one.ensures.progress;
 }
 
 pub returns : goal.returns

@@ -8,7 +8,7 @@ use Rattle.reducer.proofs.later_rules.apply_later_rules.Given as goal
 abbrev pub invariant-loop-underway : goal.invariant-loop-underway
 invariant-loop-underway l = record {
   led : Led (graph_of l.initial.underway.model) (graph_of l.underway.model) (map application_of l.initial.underway.applications.items) (map application_of l.underway.applications.items);
-  known : IsProgress (graph_of l.underway.model) l.underway.progress;
+  progress : IsProgress (graph_of l.underway.model) l.underway.progress;
 }
 
 abbrev pub decreases-loop-underway : goal.decreases-loop-underway

@@ -3,12 +3,12 @@ use Rattle.std.proofs.Common.{◌≡◌, Some, None, cond, sym, ap, subst}
 use Rattle.std.proofs.lemmas.Result.{IfOk-weaker}
 use Rattle.model_core.specs.Code.Views.{graph_of, application_of}
 use Rattle.model_core.specs.Rules.Reduction.{RuleApplication, applied}
-use Rattle.reduction_cert.proofs.SameBehindDrop.{merge_applied}
-use Rattle.reduction_cert.proofs.ToldByRules.{holds_anyway}
+use Rattle.reduction_cert.proofs.SameAfterDrop.{merge_applied}
+use Rattle.reduction_cert.proofs.RuleAnswers.{holds_anyway}
 use Rattle.reduction_cert.proofs.checking.apply.Goals as goal
 
-pub returns-in-Slice-clause-known : goal.returns-in-Slice-clause-known
-returns-in-Slice-clause-known c = holds_anyway c.apply_slice.result (c.begin.ensures _)
+pub returns-in-Slice-clause-facts : goal.returns-in-Slice-clause-facts
+returns-in-Slice-clause-facts c = holds_anyway c.apply_slice.result (c.begin.ensures _)
 
 pub returns-in-Merge-clause-made : goal.returns-in-Merge-clause-made
 returns-in-Merge-clause-made c =

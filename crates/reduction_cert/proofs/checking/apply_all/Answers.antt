@@ -6,8 +6,8 @@ use Rattle.sig_base.specs.declared.no_memory.NoMemory.{NoMemory}
 use Rattle.sig_base.proofs.Lists.{remaining_more}
 use Rattle.model_core.specs.Code.Views.{graph_of, application_of}
 use Rattle.reduction_cert.proofs.OneMore.{left_none, bad_later, reached_later, bad_here, none_bad, all_reached}
-use Rattle.reduction_cert.proofs.FewerVariables.{counts_begin, counts_serve, fewer}
-use Rattle.reduction_cert.proofs.SameBehindDrop.{was_made, was_refused}
+use Rattle.reduction_cert.proofs.FewerVariables.{counts_serve, fewer}
+use Rattle.reduction_cert.proofs.SameAfterDrop.{was_made, was_refused}
 use Rattle.reduction_cert.proofs.checking.apply_all.Goals as goal
 
 pub loop-place-preserved : goal.loop-place-preserved
@@ -20,7 +20,7 @@ loop-place-preserved c =
     let (next, made, serves) = was_made later g a _ (graph_of c.apply_with_next.new.model) c.if-not-branch.false c.in_ok-apply_with_next.ensures.made in
     record {
       listed = c.in_ok-find_places_anew.ensures g next made serves.names c.loop-place.invariant.listed;
-      known = c.in_ok-apply_with_next.ensures.known;
+      facts = c.in_ok-apply_with_next.ensures.facts;
       counts = counts_serve c.loop-place.model c.apply_with_next.new.model _ _ (fewer serves.variables (c.applications_add_no_variables.ensures g next a made)) c.in_ok-apply_with_next.ensures.counts c.loop-place.invariant.counts;
       bad = bad_later g a left later is next made _ c.loop-place.place c.loop-place.invariant.bad ∙ ap (option_map (λ k. k + (c.loop-place.place + 1))) serves.bad;
       reached = reached_later g a left later is next made _ c.loop-place.invariant.reached ∙ serves.reached;
@@ -54,8 +54,8 @@ returns-clause-reached c = λ _.
 pub loop-place-init : goal.loop-place-init
 loop-place-init c = record {
   listed = search rules;
-  known = c.begin-known.ensures (graph_of c.args.model.now);
-  counts = counts_begin _ _ c.in_ok-counts.ensures;
+  facts = c.begin-facts.ensures (graph_of c.args.model.now);
+  counts = c.new_counts_count_nothing.ensures _ _ c.in_ok-counts.ensures;
   bad = first_of (search rules, grind (arith, common_steps));
   reached = search rules;
 }

@@ -2,7 +2,7 @@
 use Rattle.std.proofs.Common.{◌≡◌, Some, rules}
 use Rattle.model_core.specs.Code.Views.{graph_of}
 use Rattle.model_core.specs.Rules.Reduction.{two_vertices_named}
-use Rattle.reduction_cert.proofs.SameBehindDrop.{merge_told}
+use Rattle.reduction_cert.proofs.SameAfterDrop.{merge-answer}
 use Rattle.reduction_cert.proofs.checking.apply_merge.Goals as goal
 
 pub returns-in_default-clause-made : goal.returns-in_default-clause-made
@@ -12,5 +12,5 @@ pub returns-clause-made : goal.returns-clause-made
 returns-clause-made c =
     let g = graph_of c.args.model.now in
     let named : two_vertices_named g c.args.vertex.now c.args.target.now ≡ Some (c.in-Some.vertex, c.in-Some.target) = (let is = c.in-Some.ensures g c.requires.listed in search rules) in
-    merge_told c.args.second g c.args.vertex.now c.args.target.now c.in-Some.vertex c.in-Some.target (graph_of c.merge_measured.new.model) named
+    merge-answer c.args.second g c.args.vertex.now c.args.target.now c.in-Some.vertex c.in-Some.target (graph_of c.merge_measured.new.model) named
     c.merge_measured.result c.merge_measured.ensures.done c.merge_measured.ensures.refused c.was_made.result c.was_made.ensures.made c.was_made.ensures.refused

@@ -1,6 +1,6 @@
 -- The only name is this one.
 use Rattle.std.proofs.Common.{◌≡◌, ◌∙◌, [], ◌∷◌, List, ℕ, get_or, ap, rules}
-use Rattle.reduction_cert.proofs.SameBehindDrop.{only_one}
+use Rattle.reduction_cert.proofs.SameAfterDrop.{only_one}
 use Rattle.reduction_cert.proofs.looking_ahead.is_alone.Goals as goal
 
 pub returns-then-names-eq1 : goal.returns-then-names-eq1

@@ -6,7 +6,7 @@ use Rattle.model_core.specs.Rules.Conditions.{first_failed}
 use Rattle.model_core.specs.Rules.Drop.{drop_conditions, dropped}
 use Rattle.merge_rules.specs.Growth.{body_lines}
 use Rattle.merge_rules.specs.FactsOfModel.{BodiesAreRight}
-use Rattle.reduction_cert.specs.KnownWithout.{bodies_after_drop}
+use Rattle.reduction_cert.specs.FactsAfterDrop.{bodies_after_drop}
 use Rattle.reduction_cert.proofs.BodiesLeft.{only, none-without, bodies-left}
 use Rattle.reduction_cert.proofs.without_vertices.keep_bodies_without.Goals as goal
 

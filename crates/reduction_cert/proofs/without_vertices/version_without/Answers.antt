@@ -8,10 +8,10 @@ use Rattle.merge_rules.specs.FactsOfModel.{VersionIsRight}
 use Rattle.reduction_cert.proofs.without_vertices.version_without.Goals as goal
 
 as_before : (g h : EventGraph) (two : Option Bool) → needs_version_two h ≡ needs_version_two g → VersionIsRight g two → VersionIsRight h two
-as_before g h None same tells = tt
-as_before g h (Some two) same tells = tells ∙ sym same
+as_before g h None same right = tt
+as_before g h (Some two) same right = right ∙ sym same
 
-pub returns-clause-tells : goal.returns-clause-tells
-returns-clause-tells c = λ holds.
+pub returns-clause-right : goal.returns-clause-right
+returns-clause-right c = λ holds.
     as_before (graph_of c.args.model.now) (dropped (graph_of c.args.model.now) c.args.vertices.now) c.args.version_two
     (c.dropping_takes_lines.ensures.version (graph_of c.args.model.now) c.args.vertices.now holds (sym c.one_is_later.ensures ∙ c.if-one_is_later.false)) c.requires

@@ -19,7 +19,7 @@ loop-first-preserved c =
     record {
       sought = none_here (merge_at g) c.merge_at-found.result (first_merge g) c.loop-first.first (length c.args.model.now.vertices) below c.merge_at-found.ensures.found (sym c.is_some.ensures ∙ c.if-is_some.false) c.loop-first.invariant.sought;
       kept = c.merge_at-found.ensures.kept;
-      known = c.merge_at-found.ensures.known;
+      facts = c.merge_at-found.ensures.facts;
       counts = subst (NothingCounted (length c.args.model.now.vars)) (sym c.merge_at-found.ensures.counts) c.loop-first.invariant.counts;
       same = c.merge_at-found.ensures.counts ∙ c.loop-first.invariant.same;
     }

@@ -11,7 +11,7 @@ abbrev pub invariant-loop-first : goal.invariant-loop-first
 invariant-loop-first l = record {
   sought : first_from (merge_at (graph_of l.model)) l.first (length l.model.vertices) ≡ first_merge (graph_of l.model);
   kept : PairsAreRight (graph_of l.model) l.self;
-  known : FactsAreRight (graph_of l.model) l.known;
+  facts : FactsAreRight (graph_of l.model) l.facts;
   counts : NothingCounted (length l.model.vars) l.counts;
   same : l.counts ≡ l.initial.counts;
 }

@@ -3,7 +3,7 @@ use Rattle.std.proofs.Common.{◌<◌, ◌∙◌, Bool, Some, None, cond, refl, 
 use Rattle.std.proofs.lemmas.List.{length-map}
 use Rattle.model_core.specs.Code.Views.{graph_of, vertex_of}
 use Rattle.merge_rules.specs.Growth.{growth}
-use Rattle.merge_rules.proofs.MergedText.LimitsTold.{second_among}
+use Rattle.merge_rules.proofs.MergedText.LimitsTested.{second_among}
 use Rattle.merge_rules.proofs.PairsBetweenMerges.PairsFit.{seven-hold}
 use Rattle.merge_rules.proofs.kept_search.KeptPairs.measure_pair.Goals as goal
 

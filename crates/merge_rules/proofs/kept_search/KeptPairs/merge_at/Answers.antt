@@ -13,11 +13,11 @@ pair_growth-growth-requires-clause-target c =
     let there : c.args.first < length g.vertices = omega (arith, c.requires.there, length-map c.args.model.now.vertices vertex_of) in
     sym (pair-at g c.self.inside.pairs.items (subst (PairsAreRight g) (sym c.self.view_is) c.requires.kept) c.args.first c.index-pair.result.now there c.index-pair.ensures).target ∙ c.in-Some.is
 
-pub pair_growth-growth-requires-clause-standing : goal.pair_growth-growth-requires-clause-standing
-pair_growth-growth-requires-clause-standing c =
+pub pair_growth-growth-requires-clause-answer : goal.pair_growth-growth-requires-clause-answer
+pair_growth-growth-requires-clause-answer c =
     let g = graph_of c.args.model.now in
     let there : c.args.first < length g.vertices = omega (arith, c.requires.there, length-map c.args.model.now.vertices vertex_of) in
-    (pair-at g c.self.inside.pairs.items (subst (PairsAreRight g) (sym c.self.view_is) c.requires.kept) c.args.first c.index-pair.result.now there c.index-pair.ensures).standing
+    (pair-at g c.self.inside.pairs.items (subst (PairsAreRight g) (sym c.self.view_is) c.requires.kept) c.args.first c.index-pair.result.now there c.index-pair.ensures).answer
 
 pub short_merge-requires-clause-target : goal.short_merge-requires-clause-target
 short_merge-requires-clause-target c =

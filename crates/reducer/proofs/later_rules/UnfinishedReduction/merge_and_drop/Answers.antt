@@ -14,7 +14,7 @@ use Rattle.merge_rules.specs.FactsOfModel.{FactsAreRight}
 use Rattle.merge_rules.specs.Hollowed.{hollow, hollowed}
 use Rattle.reducer.specs.Inner.LaterRules.{dropped_too}
 use Rattle.reducer.proofs.FirstLaterRule.{exactly_hold, drop_made}
-use Rattle.reducer.proofs.KnownBetween.{hollow_named, all_known}
+use Rattle.reducer.proofs.ProgressKept.{hollow_named, progress-right}
 use Rattle.reducer.proofs.later_rules.UnfinishedReduction.merge_and_drop.Goals as goal
 
 pub drop_unreached-requires : goal.drop_unreached-requires
@@ -38,15 +38,15 @@ returns c =
     let holds : first_failed (drop_conditions m ks) ≡ None = exactly_hold ks (unreached m) (λ e. cc) (sym c.requires.alone.alone) in
     let holds_there : first_failed (drop_conditions (graph_of c.merge_holding.new.model) vs) ≡ None =
     ap (λ (h : EventGraph). first_failed (drop_conditions h vs)) empty ∙ ap (λ (ks : List ℕ). first_failed (drop_conditions (hollowed m second) ks)) one ∙ ap first_failed (law.conditions m hollow second) ∙ holds in
-    let told : FactsAreRight (dropped m ks) c.keep_after_drop.new.known =
-    subst (λ (h : EventGraph). FactsAreRight h c.keep_after_drop.new.known) left
-    (subst (λ (ks : List ℕ). first_failed (drop_conditions (graph_of c.merge_holding.new.model) ks) ≡ None → FactsAreRight (dropped (graph_of c.merge_holding.new.model) ks) c.keep_after_drop.new.known) c.as_slice.ensures c.keep_after_drop.ensures.known holds_there) in
+    let facts : FactsAreRight (dropped m ks) c.keep_after_drop.new.facts =
+    subst (λ (h : EventGraph). FactsAreRight h c.keep_after_drop.new.facts) left
+    (subst (λ (ks : List ℕ). first_failed (drop_conditions (graph_of c.merge_holding.new.model) ks) ≡ None → FactsAreRight (dropped (graph_of c.merge_holding.new.model) ks) c.keep_after_drop.new.facts) c.as_slice.ensures c.keep_after_drop.ensures.facts holds_there) in
     let names : map (vertex_name (graph_of c.merge_holding.new.model)) vs ≡ vertex_name m second ∷ [] =
     ap (λ (h : EventGraph). map (vertex_name h) vs) empty ∙ ap (map (vertex_name (hollowed m second))) one ∙ ap (λ (name : List ℕ). name ∷ []) (hollow_named m second second) in
     let noted = c.in_ok-note_drop.ensures ∙ ap (λ (names : List (List ℕ)). map application_of c.args.self.now.applications.items ++ Drop names ∷ []) names in
     on_ok_weaker c.drop_unreached.result
     (λ done. record {
       left = dropped_too (drop_made m _ ks _ _ valid (λ e. cc) (sym c.requires.alone.alone) (done ∙ left) noted);
-      known = all_known (dropped m ks) _ _ _ _ told c.requires.merging.counts c.note_drop_after_merge.ensures (c.dropping_keeps_the_meaning.ensures.all_reached m ks valid holds) (done ∙ left);
+      progress = progress-right (dropped m ks) _ _ _ _ facts c.requires.merging.counts c.note_drop_after_merge.ensures (c.dropping_keeps_the_meaning.ensures.all_reached m ks valid holds) (done ∙ left);
     })
     c.drop_unreached.ensures.done

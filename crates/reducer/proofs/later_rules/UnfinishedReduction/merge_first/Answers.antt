@@ -10,7 +10,7 @@ use Rattle.reducer.proofs.RuleByRule.{noted_more}
 use Rattle.reducer.proofs.later_rules.UnfinishedReduction.merge_first.Goals as goal
 
 pub first_merge-requires-clause-counts : goal.first_merge-requires-clause-counts
-first_merge-requires-clause-counts c = counts_for_code c.args.self.now.model _ c.requires.underway.known.counts
+first_merge-requires-clause-counts c = counts_for_code c.args.self.now.model _ c.requires.underway.progress.counts
 
 pub note_merge-requires-clause-holds : goal.note_merge-requires-clause-holds
 note_merge-requires-clause-holds c = merge_holds (graph_of c.args.self.now.model) c.in-Some.first c.in-Some.second (sym c.in-Some.ensures.found)
@@ -19,8 +19,8 @@ pub merge_pair-requires-clause-merging : goal.merge_pair-requires-clause-merging
 merge_pair-requires-clause-merging c =
     let g = graph_of c.args.self.now.model in record {
       holds = merge_holds g c.in-Some.first c.in-Some.second (sym c.in-Some.ensures.found);
-      known = c.first_merge.ensures.known;
-      counts = subst (NothingCounted (length g.variables)) (sym c.first_merge.ensures.counts) c.requires.underway.known.counts;
+      facts = c.first_merge.ensures.facts;
+      counts = subst (NothingCounted (length g.variables)) (sym c.first_merge.ensures.counts) c.requires.underway.progress.counts;
       pairs = c.in_ok-note_merge.ensures;
     }
 
@@ -31,5 +31,5 @@ returns c =
     let noted = noted_more _ _ _ c.in_ok-push.ensures.items ∙ ap₂ (λ (name other : List ℕ). map application_of c.args.self.now.applications.items ++ Merge name other ∷ []) c.in_ok-vertex.ensures c.in_ok-target.ensures in
     record {
       made = (merged g c.in-Some.first c.in-Some.second, _, merge_made g _ _ _ _ _ c.requires.underway.valid is refl noted, c.in_ok-merge_pair.ensures.left);
-      known = c.in_ok-merge_pair.ensures.known;
+      progress = c.in_ok-merge_pair.ensures.progress;
     }

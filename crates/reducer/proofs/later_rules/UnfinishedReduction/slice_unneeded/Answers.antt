@@ -16,5 +16,5 @@ returns c =
           (answer_made _ _ _ _ _ c.was_made.result c.slice.result c.was_made.ensures.made c.was_made.ensures.refused c.slice.ensures.done c.slice.ensures.refused
           (exactly_hold _ _ some listed)
           (λ done. slice_made g _ _ _ _ c.requires.valid some listed done.1 (noted_more _ _ _ c.in_ok-push.ensures.items ∙ ap (λ (names : List (List ℕ)). map application_of c.args.self.now.applications.items ++ Slice names ∷ []) (c.from_vec.ensures ∙ c.in_ok-names.ensures ∙ ap (map (variable_name g)) c.as_slice.ensures))));
-      known = c.in_ok-self.ensures;
+      progress = c.in_ok-self.ensures;
     }
