@@ -15,10 +15,6 @@ abbrev all_of : List Bool → Bool
 all_of [] = true
 all_of (b ∷ bs) = b && all_of bs
 
-pub none-is_none : (o : Option ℕ) → is_none o ≡ true → o ≡ None
-none-is_none None e = refl
-none-is_none (Some k) e = cc
-
 pub mapped-none : (o : Option ℕ) → is_none (option_map suc o) ≡ is_none o
 mapped-none None = refl
 mapped-none (Some k) = refl

@@ -24,29 +24,29 @@ use Rattle.twin_rules.proofs.PairsStillApart.{stays-apart, and-back}
 use Rattle.twin_rules.proofs.BarredAfter.{barred-after}
 use Rattle.twin_rules.proofs.VertexFingerprints.{print-renumbered, aims-moved}
 
-module _ (g : EventGraph) (keep gone : ℕ) (are : AreAlike g keep gone) (known : List VertexFingerprint) (changed : List Bool) where
+module _ (g : EventGraph) (keep gone : ℕ) (are : AreAlike g keep gone) (table : List VertexFingerprint) (changed : List Bool) where
   abbrev h : EventGraph
   h = fused g keep gone
 
   abbrev left : List VertexFingerprint
-  left = remove known gone
+  left = remove table gone
 
   -- a vertex keeps its number
-  same-number : (v : ℕ) → (v == gone) ≡ false → number_in left (fused_place keep gone v) ≡ number_in known v
+  same-number : (v : ℕ) → (v == gone) ≡ false → number_in left (fused_place keep gone v) ≡ number_in table v
   same-number v apart =
       ap (λ (o : Option VertexFingerprint). option_map_or (λ (p : VertexFingerprint). p.number) o VERTICES_MAX)
-      (fused-get keep gone are.first known v ∙ ap (slice_get known) (standing-itself keep gone are.first v apart))
+      (fused-get keep gone are.first table v ∙ ap (slice_get table) (standing-itself keep gone are.first v apart))
 
-  pub prints-after : AreFingerprints g known → ((x : ℕ) → has_changed changed x ≡ false → some_leads g (place_before gone x) gone ≡ false) → AreFingerprintsBut h left changed
+  pub prints-after : AreFingerprints g table → ((x : ℕ) → has_changed changed x ≡ false → some_leads g (place_before gone x) gone ≡ false) → AreFingerprintsBut h left changed
   prints-after prints unchanged x p is =
       let apart = stays-apart gone x in
       let back = and-back gone x in
-      let was : slice_get known (place_before gone x) ≡ Some p = sym (get-without known gone (place_before gone x) (apart-turned (place_before gone x) gone apart)) ∙ (ap (slice_get left) back ∙ is) in
+      let was : slice_get table (place_before gone x) ≡ Some p = sym (get-without table gone (place_before gone x) (apart-turned (place_before gone x) gone apart)) ∙ (ap (slice_get left) back ∙ is) in
       let held = prints (place_before gone x) p was in
       let there : vertex_at h x ≡ vertex_renumbered (fused_place keep gone) (vertex_at g (place_before gone x)) = ap (vertex_at h) (sym back) ∙ placed g keep gone are (place_before gone x) apart in
       record {
         doing = held.doing ∙ ap half (sym (ap vertex_fingerprint there ∙ print-renumbered (fused_place keep gone) (vertex_at g (place_before gone x))));
         barred = held.barred ∙ sym (ap (is_barred h) (sym back) ∙ barred-after g keep gone are (place_before gone x) apart);
         aims = λ stays. held.aims tt ∙ ap half (sym (ap (λ (v : EventVertex). targets_fingerprint (number_in left) v.edges) there
-            ∙ aims-moved (fused_place keep gone) (number_in known) (number_in left) gone same-number (vertex_at g (place_before gone x)).edges (every-fails (leads_to gone) (vertex_at g (place_before gone x)).edges (unchanged x stays))));
+            ∙ aims-moved (fused_place keep gone) (number_in table) (number_in left) gone same-number (vertex_at g (place_before gone x)).edges (every-fails (leads_to gone) (vertex_at g (place_before gone x)).edges (unchanged x stays))));
       }

@@ -1,11 +1,10 @@
 -- The aims of one vertex after another are printed anew.
 use Rattle.std.proofs.Common.{◌≡◌, ◌⊎◌, inl, inr, ℕ, ◌+◌, ◌<◌, ◌≤◌, ◌==◌, Bool, true, false, List, length, slice_get, Option, Some, None, refl, sym, ◌∙◌, ap, subst, arith}
 use Rattle.std.specs.Option.{option_map_or}
-use Rattle.std.proofs.lemmas.Bool.{false≢true}
+use Rattle.std.proofs.lemmas.Bool.{false≢true, eqb-true}
 use Rattle.std.proofs.lemmas.Bool.Decides.{nat_tests}
 use Rattle.std.proofs.lemmas.Option.{slice_get_within}
 use Rattle.sig_base.specs.declared.limits.TheConstants.{VERTICES_MAX}
-use Rattle.mark_laws.proofs.EntailedMarks.{same-place}
 use Rattle.model_core.specs.EventGraph.{EventGraph}
 use Rattle.model_core.specs.Run.Step.{vertex_at}
 use Rattle.twin_rules.specs.declared.print.VertexFingerprint.{VertexFingerprint}
@@ -25,7 +24,7 @@ pub nothing-renewed : (g : EventGraph) (old : List VertexFingerprint) (changed :
 nothing-renewed g old changed prints = record {
   long = refl;
   numbers = λ v. refl;
-  kept = λ x p is. record { doing = (prints x p is).doing; barred = (prints x p is).barred; aims = λ known. by x p is known };
+  kept = λ x p is. record { doing = (prints x p is).doing; barred = (prints x p is).barred; aims = λ hold. by x p is hold };
 } where
   by : (x : ℕ) (p : VertexFingerprint) → slice_get old x ≡ Some p → (x < 0) ⊎ (has_changed changed x ≡ false) → p.aims ≡ targets_fingerprint_at g old x
   by x p is (inl none) = absurd (omega (arith, none))
@@ -37,7 +36,7 @@ module _ (g : EventGraph) (old now : List VertexFingerprint) (changed : List Boo
   one-passed stays = record {
     long = so_far.long;
     numbers = so_far.numbers;
-    kept = λ x p is. record { doing = (so_far.kept x p is).doing; barred = (so_far.kept x p is).barred; aims = λ known. by x p is known };
+    kept = λ x p is. record { doing = (so_far.kept x p is).doing; barred = (so_far.kept x p is).barred; aims = λ hold. by x p is hold };
   } where
     at : (x : ℕ) (p : VertexFingerprint) → slice_get now x ≡ Some p → (x < place) ⊎ (x ≡ place) → p.aims ≡ targets_fingerprint_at g old x
     at x p is (inl less) = (so_far.kept x p is).aims (inl less)
@@ -60,20 +59,20 @@ module _ (g : EventGraph) (old now : List VertexFingerprint) (changed : List Boo
     same-number : (v : ℕ) (b : Bool) → (v == place) ≡ b → (o : Option VertexFingerprint) → slice_get now place ≡ o → number_in next v ≡ number_in now v
     same-number v false apart o found = ap number_of (renewed.others v apart)
     same-number v true here (Some p) found =
-        let at = same-place v place here in
+        let at = eqb-true v place here in
         ap (number_in next) at ∙ (ap number_of (renewed.here p found) ∙ (ap number_of (sym found) ∙ ap (number_in now) (sym at)))
     same-number v true here None found =
-        let at = same-place v place here in
+        let at = eqb-true v place here in
         ap (number_in next) at ∙ (ap number_of (renewed.beyond found) ∙ (ap number_of (sym found) ∙ ap (number_in now) (sym at)))
 
     numbers : (v : ℕ) → number_in next v ≡ number_in now v
     numbers v = same-number v (v == place) refl (slice_get now place) refl
 
-    told : (x : ℕ) → x < place + 1 → (x == place) ≡ false → x < place
-    told x less apart = grind (arith, nat_tests)
+    earlier : (x : ℕ) → x < place + 1 → (x == place) ≡ false → x < place
+    earlier x less apart = grind (arith, nat_tests)
 
     elsewhere : (x : ℕ) (p : VertexFingerprint) → (x == place) ≡ false → slice_get now x ≡ Some p → (x < place + 1) ⊎ (has_changed changed x ≡ false) → p.aims ≡ targets_fingerprint_at g old x
-    elsewhere x p apart was (inl less) = (so_far.kept x p was).aims (inl (told x less apart))
+    elsewhere x p apart was (inl less) = (so_far.kept x p was).aims (inl (earlier x less apart))
     elsewhere x p apart was (inr stays) = (so_far.kept x p was).aims (inr stays)
 
     here : (x : ℕ) (p q : VertexFingerprint) → x ≡ place → slice_get now place ≡ Some q → slice_get next x ≡ Some p → IsFingerprintBut g old ((x < place + 1) ⊎ (has_changed changed x ≡ false)) x p
@@ -84,7 +83,7 @@ module _ (g : EventGraph) (old now : List VertexFingerprint) (changed : List Boo
         record {
           doing = held.doing;
           barred = held.barred;
-          aims = λ known. ap half (aims-same (number_in now) (number_in old) so_far.numbers (vertex_at g place).edges);
+          aims = λ hold. ap half (aims-same (number_in now) (number_in old) so_far.numbers (vertex_at g place).edges);
         }
 
     there : (x : ℕ) (p : VertexFingerprint) → x ≡ place → (o : Option VertexFingerprint) → slice_get now place ≡ o → slice_get next x ≡ Some p → IsFingerprintBut g old ((x < place + 1) ⊎ (has_changed changed x ≡ false)) x p
@@ -92,7 +91,7 @@ module _ (g : EventGraph) (old now : List VertexFingerprint) (changed : List Boo
     there x p at None found is = let no : Some p ≡ None = sym is ∙ (ap (slice_get next) at ∙ renewed.beyond found) in cc
 
     either : (x : ℕ) (p : VertexFingerprint) (b : Bool) → (x == place) ≡ b → slice_get next x ≡ Some p → IsFingerprintBut g old ((x < place + 1) ⊎ (has_changed changed x ≡ false)) x p
-    either x p true at is = there x p (same-place x place at) (slice_get now place) refl is
+    either x p true at is = there x p (eqb-true x place at) (slice_get now place) refl is
     either x p false apart is =
         let was : slice_get now x ≡ Some p = sym (renewed.others x apart) ∙ is in
         record { doing = (so_far.kept x p was).doing; barred = (so_far.kept x p was).barred; aims = elsewhere x p apart was }
@@ -109,12 +108,12 @@ all-renewed g old now changed place past so_far x p is =
     record {
       doing = (so_far.kept x p is).doing;
       barred = (so_far.kept x p is).barred;
-      aims = λ known. (so_far.kept x p is).aims (inl (omega (arith, inside, long, past))) ∙ ap half (sym (aims-same (number_in now) (number_in old) so_far.numbers (vertex_at g x).edges));
+      aims = λ hold. (so_far.kept x p is).aims (inl (omega (arith, inside, long, past))) ∙ ap half (sym (aims-same (number_in now) (number_in old) so_far.numbers (vertex_at g x).edges));
     }
 
 -- ---- at first
 
-pub all-old : (g : EventGraph) (known : List VertexFingerprint) (changed : List Bool) → AreFingerprintsOfAll g known → ((k : ℕ) → has_changed changed k ≡ true) → AreFingerprintsBut g known changed
-all-old g known changed prints all x p is =
+pub all-old : (g : EventGraph) (table : List VertexFingerprint) (changed : List Bool) → AreFingerprintsOfAll g table → ((k : ℕ) → has_changed changed k ≡ true) → AreFingerprintsBut g table changed
+all-old g table changed prints all x p is =
     let (doing, barred) = prints x p is in
     record { doing = doing; barred = barred; aims = λ stays. absurd (false≢true (sym stays ∙ all x)) }

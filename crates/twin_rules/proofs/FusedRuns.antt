@@ -1,7 +1,7 @@
 -- Two vertices that do the same, of which no edge cancels events and neither is watched, may be fused: the runs stay the same.
 use Rattle.std.proofs.Common.{◌≡◌, ℕ, zero, suc, Bool, true, false, cond, ◌&&◌, ◌==◌, List, [], ◌∷◌, map, slice_index_or, refl, sym, ◌∙◌, ap, subst}
 use Rattle.std.specs.List.{AllByRecursion, list_any, remove}
-use Rattle.mark_laws.proofs.EntailedMarks.{same-place}
+use Rattle.std.proofs.lemmas.Bool.{eqb-true}
 use Rattle.model_core.specs.EventGraph.{EventGraph, EventVertex, EventEdge, EdgeKind, Schedule, Urgent, CancelNext, CancelEqual, CancelAll, Watched, WatchedVariable, WatchedVertex}
 use Rattle.model_core.specs.Run.Step.{no_vertex, vertex_at}
 use Rattle.model_core.specs.Run.History.{watches}
@@ -37,7 +37,7 @@ module _ (g : EventGraph) (keep gone : ℕ) (are : AreAlike g keep gone) where
   does k = subst (BehavesAs f (vertex_at g k)) (sym (placed k)) (by (k == gone) refl) where
     by : (b : Bool) → (k == gone) ≡ b → BehavesAs f (vertex_at g k) (vertex_renumbered f (vertex_at g (cond b keep k)))
     by true is =
-        let there : vertex_at g k ≡ vertex_at g gone = ap (vertex_at g) (same-place k gone is) in
+        let there : vertex_at g k ≡ vertex_at g gone = ap (vertex_at g) (eqb-true k gone is) in
         record {
           parameters = ap (λ (v : EventVertex). v.parameters) there ∙ sym are.parameters;
           changes = ap (λ (v : EventVertex). v.changes) there ∙ sym are.changes;
@@ -45,13 +45,13 @@ module _ (g : EventGraph) (keep gone : ℕ) (are : AreAlike g keep gone) where
         }
     by false is = record { parameters = refl; changes = refl; edges = refl }
 
-  abbrev Told : ℕ → Type 0
-  Told t = Other keep gone are.first t
+  abbrev IsOther : ℕ → Type 0
+  IsOther t = Other keep gone are.first t
 
   abbrev May : EventEdge → Type 0
-  May e = LeadsToMapped (λ k. Unit {0}) Told e.kind e.target
+  May e = LeadsToMapped (λ k. Unit {0}) IsOther e.kind e.target
 
-  may-lead : (kind : EdgeKind) (t : ℕ) → (is_cancelling kind && (t == keep)) ≡ false → (is_cancelling kind && (t == gone)) ≡ false → LeadsToMapped (λ k. Unit {0}) Told kind t
+  may-lead : (kind : EdgeKind) (t : ℕ) → (is_cancelling kind && (t == keep)) ≡ false → (is_cancelling kind && (t == gone)) ≡ false → LeadsToMapped (λ k. Unit {0}) IsOther kind t
   may-lead (Schedule delay priority) t a b = tt
   may-lead Urgent t a b = tt
   may-lead CancelNext t a b = record { not_keep = a; not_gone = b }
@@ -65,20 +65,20 @@ module _ (g : EventGraph) (keep gone : ℕ) (are : AreAlike g keep gone) where
       every-both (λ (e : EventEdge). cancels keep e ≡ false) (λ (e : EventEdge). cancels gone e ≡ false) May (λ e. may-lead e.kind e.target) v.edges (every-fails (cancels keep) v.edges a) (every-fails (cancels gone) v.edges b))
       g.vertices (every-fails (λ (v : EventVertex). list_any (cancels keep) v.edges) g.vertices are.keep_uncancelled) (every-fails (λ (v : EventVertex). list_any (cancels gone) v.edges) g.vertices are.gone_uncancelled))
 
-  pub watched-told : AllByRecursion (WatchedAreApart Told) g.watch
-  watched-told =
-      every-both (λ w. watches keep w ≡ false) (λ w. watches gone w ≡ false) (WatchedAreApart Told) one g.watch (every-fails (watches keep) g.watch are.keep_unwatched) (every-fails (watches gone) g.watch are.gone_unwatched) where
-        one : (w : Watched) → watches keep w ≡ false → watches gone w ≡ false → WatchedAreApart Told w
+  pub watched-other : AllByRecursion (WatchedAreApart IsOther) g.watch
+  watched-other =
+      every-both (λ w. watches keep w ≡ false) (λ w. watches gone w ≡ false) (WatchedAreApart IsOther) one g.watch (every-fails (watches keep) g.watch are.keep_unwatched) (every-fails (watches gone) g.watch are.gone_unwatched) where
+        one : (w : Watched) → watches keep w ≡ false → watches gone w ≡ false → WatchedAreApart IsOther w
         one (WatchedVariable v) a b = tt
         one (WatchedVertex v) a b = record { not_keep = a; not_gone = b }
 
   pub fused-Same : Same g h
-  fused-Same = mapped-Same g f (map (vertex_renumbered f) (remove g.vertices gone)) (λ k. Unit {0}) Told (record {
-    apart = λ t told k live. fused-apart keep gone are.first t told k;
+  fused-Same = mapped-Same g f (map (vertex_renumbered f) (remove g.vertices gone)) (λ k. Unit {0}) IsOther (record {
+    apart = λ t other k live. fused-apart keep gone are.first t other k;
     does = λ k live. does k;
-    names = λ k told. sym (ap (λ (v : EventVertex). v.name) (placed k ∙ ap (λ k. vertex_renumbered f (vertex_at g k)) (standing-itself keep gone are.first k told.not_gone)));
+    names = λ k other. sym (ap (λ (v : EventVertex). v.name) (placed k ∙ ap (λ k. vertex_renumbered f (vertex_at g k)) (standing-itself keep gone are.first k other.not_gone)));
     closed = λ k live. closed k;
     first = fused-first keep gone are.first;
     first_live = tt;
-    watched = watched-told;
+    watched = watched-other;
   })

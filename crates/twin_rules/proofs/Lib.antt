@@ -10,11 +10,11 @@ pub mod NextPlaces
 pub mod FusedSoFar
 pub mod Marking
 pub mod PairsStillApart
-pub mod KnownPairs
+pub mod PairsSearched
 pub mod BarredAfter
 pub mod VertexFingerprints
 pub mod FingerprintsAfter
-pub mod TellingApart
+pub mod UnlikeFingerprints
 pub mod FingerprintsRenewed
 pub mod PrintLists
 pub mod SkippedPlaces

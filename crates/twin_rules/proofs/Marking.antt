@@ -18,8 +18,8 @@ pub record MarkedSoFar (more : ℕ → Bool) (gone : ℕ) (old now : List Bool) 
 pub nothing-marked : (more : ℕ → Bool) (gone : ℕ) (old : List Bool) → MarkedSoFar more gone old old 0
 nothing-marked more gone old = record { long = refl; done = λ k less. absurd (omega (arith, less)); left = λ k at. refl }
 
-at-or-behind : (gone k : ℕ) → k ≤ place_before gone k
-at-or-behind gone k = by (nat_lt k gone) where
+at_or_after : (gone k : ℕ) → k ≤ place_before gone k
+at_or_after gone k = by (nat_lt k gone) where
   by : (b : Bool) → k ≤ cond b k (k + 1)
   by true = omega arith
   by false = omega arith
@@ -36,7 +36,7 @@ one-more-marked more gone old now place b below is so_far = record {
       ap (has_changed (set now place b)) same
       ∙ (get_or-set_same now place b true below
       ∙ (is
-      ∙ (ap (λ c. c || more (place_before gone place)) (so_far.left (place_before gone place) (at-or-behind gone place))
+      ∙ (ap (λ c. c || more (place_before gone place)) (so_far.left (place_before gone place) (at_or_after gone place))
       ∙ ap (λ k. has_changed old (place_before gone k) || more (place_before gone k)) (sym same))))
 
 beyond : (marks : List Bool) (k : ℕ) → length marks ≤ k → has_changed marks k ≡ true
@@ -50,5 +50,5 @@ all-marked more gone old now place past so_far k = by (cases_lt k place) where
   by : (k < place) ⊎ (place ≤ k) → has_changed now k ≡ (has_changed old (place_before gone k) || more (place_before gone k))
   by (inl less) = so_far.done k less
   by (inr at) =
-      let behind = at-or-behind gone k in
-      so_far.left k at ∙ (beyond old k (omega (arith, past, at)) ∙ ap (λ b. b || more (place_before gone k)) (sym (beyond old (place_before gone k) (omega (arith, past, at, behind)))))
+      let after_it = at_or_after gone k in
+      so_far.left k at ∙ (beyond old k (omega (arith, past, at)) ∙ ap (λ b. b || more (place_before gone k)) (sym (beyond old (place_before gone k) (omega (arith, past, at, after_it)))))

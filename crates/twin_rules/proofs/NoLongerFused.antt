@@ -4,8 +4,8 @@ use Rattle.std.proofs.lemmas.Bool.Decides.{nat_tests}
 use Rattle.std.proofs.lemmas.List.{append_cancel_left}
 use Rattle.std.specs.Prelude.{codes}
 use Rattle.std.specs.List.{flat_map, remove}
+use Rattle.std.proofs.lemmas.Bool.{eqb-true}
 use Rattle.sig_base.specs.declared.limits.TheConstants.{TEXT_MAX}
-use Rattle.mark_laws.proofs.EntailedMarks.{same-place}
 use Rattle.model_core.specs.EventGraph.{EventGraph, EventVertex, EventEdge}
 use Rattle.model_core.specs.Text.Canonical.{variable_name, vertex_name, expression_texts, in_parentheses, timing_text, condition_text, edge_word, edge_line, change_line, vertex_lines, variable_line, table_line, watched_name, watch_names_line, canonical}
 use Rattle.model_core.specs.Rules.Drop.{edge_renumbered, vertex_renumbered}
@@ -32,7 +32,7 @@ module _ (g : EventGraph) (keep gone : ℕ) (first : keep < gone) (unwatched : i
   name-shorter : (k : ℕ) → NoLonger (vertex_name g (s k)) (vertex_name g k)
   name-shorter k = by (k == gone) refl where
     by : (b : Bool) → (k == gone) ≡ b → NoLonger (vertex_name g (cond b keep k)) (vertex_name g k)
-    by true is = record { at_most = subst (λ n. length (vertex_name g keep) ≤ length (vertex_name g n)) (sym (same-place k gone is)) names }
+    by true is = record { at_most = subst (λ n. length (vertex_name g keep) ≤ length (vertex_name g n)) (sym (eqb-true k gone is)) names }
     by false is = record { at_most = omega arith }
 
   edge-shorter : (e : EventEdge) → NoLonger (edge_line g (edge_renumbered s e)) (edge_line g e)

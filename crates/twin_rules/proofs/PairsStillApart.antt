@@ -1,9 +1,10 @@
 -- What was asked of pairs of vertices still holds when two vertices are fused, but for those that change.
-use Rattle.std.proofs.Common.{◌≡◌, ◌⊎◌, inl, inr, ℕ, ◌+◌, ◌-◌, ◌<◌, ◌≤◌, ◌==◌, nat_lt, nat_eq, Bool, true, false, not, ◌&&◌, ◌||◌, cond, [], ◌∷◌, map, take, length, Option, Some, None, refl, sym, ◌∙◌, ap, ap₂, subst, arith}
+use Rattle.std.proofs.Common.{◌≡◌, ◌⊎◌, inl, inr, ℕ, ◌+◌, ◌-◌, ◌<◌, ◌≤◌, ◌==◌, nat_lt, nat_eq, Bool, true, false, not, ◌&&◌, ◌||◌, cond, [], ◌∷◌, map, take, length, Some, refl, sym, ◌∙◌, ap, ap₂, subst, arith}
 use Rattle.std.proofs.lemmas.Bool.Decides.{nat_tests}
 use Rattle.std.proofs.lemmas.Bool.{false≢true, lt-ltb}
 use Rattle.std.specs.Prelude.{is_none}
 use Rattle.std.proofs.Math.Bool.{and-false}
+use Rattle.sig_base.proofs.Tests.{none-is_none, nat_lt-zero}
 use lib.Pointwise.{pointwise, bytes_decides}
 use Rattle.model_core.specs.EventGraph.{EventGraph}
 use Rattle.model_core.specs.Run.Step.{vertex_at}
@@ -18,7 +19,6 @@ use Rattle.model_core.proofs.EachOne.{every-fails, either_false}
 use Rattle.bound_laws.proofs.Soundness.NumberRows.{not_true}
 use Rattle.twin_rules.specs.declared.asked.PairSearch.{PairSearch}
 use Rattle.twin_rules.specs.Inner.ComparedPairs.{are_alike, is_before_pair, has_changed, NoneAlike, NoneAlikeBefore, place_before, some_leads}
-use Rattle.twin_rules.proofs.AlikeByTests.{none-is_none}
 use Rattle.twin_rules.proofs.AlikeVertices.{AreAlike, conditions-alike, changes_decided, edges_decided}
 use Rattle.twin_rules.proofs.StillApart.{NoneLeads, alike-before}
 
@@ -36,7 +36,7 @@ alike-are_alike g x y are =
     λ i. is_none (first_failed (exist i ∷ unwatched i ∷ uncancelled i ∷ same i ∷ edges i ∷ []))
 
 pub are_alike-alike : (g : EventGraph) (x y : ℕ) → are_alike g x y ≡ true → AreAlike g x y
-are_alike-alike g x y told = conditions-alike g x y (none-is_none (first_failed (take 5 (fuse_conditions g x y))) told)
+are_alike-alike g x y tested = conditions-alike g x y (none-is_none (first_failed (take 5 (fuse_conditions g x y))) tested)
 
 -- ---- places before and after
 
@@ -88,14 +88,11 @@ same-before gone x k apart e = by (where_before gone x) (where_after gone k) whe
   by (back a is) (stays b same) = grind (arith, nat_tests)
   by (back a is) (moves b same) = grind (arith, nat_tests)
 
-none-less : (y : ℕ) → nat_lt y 0 ≡ false
-none-less y = grind (arith, nat_tests)
-
 -- a pair that comes before where the bound moves came before the bound
 pub came_before : (gone keep last x y : ℕ) → is_before_pair (place_without gone keep) (cond (keep == gone) 0 (place_without gone last)) x y ≡ true → is_before_pair keep last (place_before gone x) (place_before gone y) ≡ true
-came_before gone keep last x y told = either (either_true (nat_lt x (place_without gone keep)) _ told) where
+came_before gone keep last x y tested = either (either_true (nat_lt x (place_without gone keep)) _ tested) where
   within : (b : Bool) → (keep == gone) ≡ b → (x == place_without gone keep) ≡ true → nat_lt y (cond b 0 (place_without gone last)) ≡ true → ((place_before gone x == keep) && nat_lt (place_before gone y) last) ≡ true
-  within true is same less = absurd (false≢true (sym (none-less y) ∙ less))
+  within true is same less = absurd (false≢true (sym (nat_lt-zero y) ∙ less))
   within false is same less = ap₂ (λ p q. p && q) (same-before gone x keep is same) (less-before gone y last less)
 
   either : (nat_lt x (place_without gone keep) ≡ true) ⊎ (((x == place_without gone keep) && nat_lt y (cond (keep == gone) 0 (place_without gone last))) ≡ true) → is_before_pair keep last (place_before gone x) (place_before gone y) ≡ true
@@ -110,7 +107,7 @@ nothing-asked g a keep gone x y asked =
     let before = and_first (is_before_pair a.keep a.gone x y) _ (and_first (is_before_pair a.keep a.gone x y && not (has_changed a.changed x)) _ asked) in
     absurd (false≢true (sym (out x y) ∙ (ap₂ (λ k j. is_before_pair k j x y) (sym keep) (sym gone) ∙ before))) where
       out : (x y : ℕ) → is_before_pair 0 0 x y ≡ false
-      out x y = ap₂ (λ p q. p || (x == 0) && q) (none-less x) (none-less y) ∙ and-false (x == 0)
+      out x y = ap₂ (λ p q. p || (x == 0) && q) (nat_lt-zero x) (nat_lt-zero y) ∙ and-false (x == 0)
 
 -- all pairs before this one were
 pub asked-before : (g : EventGraph) (a : PairSearch) (keep gone : ℕ) → a.keep ≡ keep → a.gone ≡ gone → NoneAlikeBefore g (Some (keep, gone)) → NoneAlike g a
@@ -128,8 +125,8 @@ module _ (g : EventGraph) (keep gone : ℕ) (are : AreAlike g keep gone) (a b : 
     leads : NoneLeads gone (vertex_at g (before x)).edges
 
   unchanged : (x : ℕ) → not (has_changed b.changed x) ≡ true → Unchanged x
-  unchanged x told =
-      let (had_not, none) = either_false (has_changed a.changed (before x)) (some_leads g (before x) gone) (sym (is_changed x) ∙ not_true _ told) in
+  unchanged x tested =
+      let (had_not, none) = either_false (has_changed a.changed (before x)) (some_leads g (before x) gone) (sym (is_changed x) ∙ not_true _ tested) in
       record { had_not = ap not had_not; leads = every-fails (leads_to gone) (vertex_at g (before x)).edges none }
 
   pub still-asked : NoneAlike g a → NoneAlike (fused g keep gone) b

@@ -5,8 +5,8 @@ use Rattle.std.proofs.lemmas.Bool.Decides.{nat_tests}
 use Rattle.std.proofs.lemmas.List.{length-drop, take-take, drop-take}
 use Rattle.std.proofs.Math.Seq.{take-paste}
 
-told-apart : (x k : ℕ) → (x == k) ≡ false → x ≢ k
-told-apart x k e = grind (arith, nat_tests)
+apart-unequal : (x k : ℕ) → (x == k) ≡ false → x ≢ k
+apart-unequal x k e = grind (arith, nat_tests)
 
 module _ {X : Type 0} where
   set-elsewhere : (xs : List X) (n k x : ℕ) (y : X) → x ≢ k → slice_get (take n (set xs k y)) x ≡ slice_get (take n xs) x
@@ -19,7 +19,7 @@ module _ {X : Type 0} where
   set-elsewhere (z ∷ xs) (suc n) (suc k) (suc x) y apart = set-elsewhere xs n k x y (λ e. apart (ap suc e))
 
   pub set-beside : (xs : List X) (n k x : ℕ) (y : X) → (x == k) ≡ false → slice_get (take n (set xs k y)) x ≡ slice_get (take n xs) x
-  set-beside xs n k x y apart = set-elsewhere xs n k x y (told-apart x k apart)
+  set-beside xs n k x y apart = set-elsewhere xs n k x y (apart-unequal x k apart)
 
   pub set-here : (xs : List X) (n k : ℕ) (f : X → X) (d p : X) → slice_get (take n xs) k ≡ Some p → slice_get (take n (set xs k (f (get_or xs k d)))) k ≡ Some (f p)
   set-here [] zero k f d p is = cc

@@ -15,7 +15,7 @@ pub record SkipsFrom (changed : List Bool) (next : List ℕ) (from ahead : ℕ) 
 pub skips-nothing : (changed : List Bool) (next : List ℕ) (from : ℕ) → length next ≤ from → SkipsFrom changed next from from
 skips-nothing changed next from past = record {
   near = λ k at less. absurd (omega (arith, at, less));
-  far = λ v k at behind less. let beyond : get_or next v v ≡ v = get_or_past next v v (omega (arith, past, at)) in absurd (omega (arith, beyond, behind, less));
+  far = λ v k at at_least less. let beyond : get_or next v v ≡ v = get_or_past next v v (omega (arith, past, at)) in absurd (omega (arith, beyond, at_least, less));
 }
 
 later-apart : (p v : ℕ) → p + 1 ≤ v → v ≢ p
@@ -33,14 +33,14 @@ one-before changed next p ahead below skips = by (has_changed changed p) refl wh
       either (inr later) = skips.near k later less
 
     far : (v k : ℕ) → p ≤ v → v ≤ k → k < get_or (set next p (cond b p ahead)) v v → has_changed changed k ≡ false
-    far v k at behind less = either (first-or-after p v at) where
+    far v k at at_least less = either (first-or-after p v at) where
       either : (v ≡ p) ⊎ (p + 1 ≤ v) → has_changed changed k ≡ false
       either (inl same) =
           let there : get_or (set next p (cond b p ahead)) v v ≡ cond b p ahead = ap (λ j. get_or (set next p (cond b p ahead)) j j) same ∙ get_or-set_same next p (cond b p ahead) p below in
-          near b is k (omega (arith, at, behind)) (subst (λ n. k < n) there less)
+          near b is k (omega (arith, at, at_least)) (subst (λ n. k < n) there less)
       either (inr later) =
           let there : get_or (set next p (cond b p ahead)) v v ≡ get_or next v v = get_or-set_other next p v (cond b p ahead) v (later-apart p v later) in
-          skips.far v k later behind (subst (λ n. k < n) there less)
+          skips.far v k later at_least (subst (λ n. k < n) there less)
 
 pub either-small : (b : Bool) (place ahead : ℕ) → place ≤ VERTICES_MAX → ahead ≤ VERTICES_MAX → cond b place ahead ≤ VERTICES_MAX
 either-small true place ahead small small_too = small
@@ -61,4 +61,4 @@ within-none n k = zeros n k k (omega arith) where
   zeros (suc n) (suc k) d e = zeros n k d e
 
 pub none-skipped : (changed : List Bool) (n v k : ℕ) → v ≤ k → k < get_or (replicate n 0) v v → has_changed changed k ≡ false
-none-skipped changed n v k behind less = let few = within-none n v in absurd (omega (arith, behind, less, few))
+none-skipped changed n v k at_least less = let few = within-none n v in absurd (omega (arith, at_least, less, few))

@@ -1,9 +1,9 @@
 -- Two vertices that aren't alike are still not alike after two others were fused, where no edge of theirs led to the one
 -- that is gone.
-use Rattle.std.proofs.Common.{◌≡◌, ℕ, zero, suc, ◌+◌, ◌-◌, ◌<◌, ◌==◌, nat_lt, Bool, true, false, ◌&&◌, ◌||◌, cond, List, [], ◌∷◌, map, length, slice_index_or, refl, sym, ◌∙◌, ap, ap₂, subst, arith}
+use Rattle.std.proofs.Common.{◌≡◌, ℕ, zero, suc, ◌+◌, ◌-◌, ◌<◌, ◌==◌, nat_lt, Bool, true, false, ◌&&◌, ◌||◌, cond, List, [], ◌∷◌, map, length, slice_index_or, refl, sym, ◌∙◌, ap, ap₂, subst, arith, eq-eqb}
 use Rattle.std.specs.List.{AllByRecursion, list_any, remove}
 use Rattle.std.proofs.lemmas.Bool.Decides.{nat_tests}
-use Rattle.mark_laws.proofs.EntailedMarks.{same-place}
+use Rattle.std.proofs.lemmas.Bool.{eqb-true}
 use Rattle.model_core.specs.EventGraph.{EventGraph, EventVertex, EventEdge, Watched, WatchedVariable, WatchedVertex}
 use Rattle.model_core.specs.Run.Step.{no_vertex, vertex_at}
 use Rattle.model_core.specs.Run.History.{watches}
@@ -80,18 +80,15 @@ module _ (g : EventGraph) (keep gone : ℕ) (are : AreAlike g keep gone) where
   pub itself : (x : ℕ) → (x == gone) ≡ false → f x ≡ p x
   itself x apart = ap p (standing-itself keep gone are.first x apart)
 
-  self : (a : ℕ) → (a == a) ≡ true
-  self a = grind (arith, nat_tests)
-
   -- a vertex differs from another one if their places in the result differ
   apart-before : (x v : ℕ) → (x == gone) ≡ false → (f v == p x) ≡ false → (v == x) ≡ false
   apart-before x v apart e = by (v == x) refl where
     by : (b : Bool) → (v == x) ≡ b → b ≡ false
     by false is = refl
     by true is =
-        let same : f v ≡ p x = ap f (same-place v x is) ∙ itself x apart in
-        let told : (f v == p x) ≡ true = ap (λ k. k == p x) same ∙ self (p x) in
-        sym told ∙ e
+        let same : f v ≡ p x = ap f (eqb-true v x is) ∙ itself x apart in
+        let moved_to : (f v == p x) ≡ true = ap (λ k. k == p x) same ∙ eq-eqb (p x) (p x) refl in
+        sym moved_to ∙ e
 
   -- ---- watched
 
@@ -127,8 +124,8 @@ module _ (g : EventGraph) (keep gone : ℕ) (are : AreAlike g keep gone) where
   -- ---- edges
 
   module _ (x y : ℕ) (x-stays : (x == gone) ≡ false) (y-stays : (y == gone) ≡ false) where
-    standing-stays : (t : ℕ) → (t == gone) ≡ false → (standing_for x y t == gone) ≡ false
-    standing-stays t apart = by (t == y) where
+    standing_for-other : (t : ℕ) → (t == gone) ≡ false → (standing_for x y t == gone) ≡ false
+    standing_for-other t apart = by (t == y) where
       by : (b : Bool) → (cond b x t == gone) ≡ false
       by true = x-stays
       by false = apart
@@ -141,8 +138,8 @@ module _ (g : EventGraph) (keep gone : ℕ) (are : AreAlike g keep gone) where
       by (behind a is) (before b is_too) = ap₂ (λ i j. i == j) is is_too ∙ (let e : ((t - 1) == y) ≡ (t == y) = grind (arith, nat_tests) in e)
       by (behind a is) (behind b is_too) = ap₂ (λ i j. i == j) is is_too ∙ (let e : ((t - 1) == (y - 1)) ≡ (t == y) = grind (arith, nat_tests) in e)
 
-    standing-moved : (t : ℕ) → (t == gone) ≡ false → standing_for (p x) (p y) (p t) ≡ p (standing_for x y t)
-    standing-moved t apart = ap (λ b. cond b (p x) (p t)) (places_same t apart) ∙ by (t == y) where
+    standing_for-moved : (t : ℕ) → (t == gone) ≡ false → standing_for (p x) (p y) (p t) ≡ p (standing_for x y t)
+    standing_for-moved t apart = ap (λ b. cond b (p x) (p t)) (places_same t apart) ∙ by (t == y) where
       by : (b : Bool) → cond b (p x) (p t) ≡ p (cond b x t)
       by true = refl
       by false = refl
@@ -150,7 +147,7 @@ module _ (g : EventGraph) (keep gone : ℕ) (are : AreAlike g keep gone) where
     edge-back : (e : EventEdge) → (e.target == gone) ≡ false → edge_renumbered (place_before gone) (edge_renumbered (standing_for (p x) (p y)) (edge_renumbered f e)) ≡ edge_renumbered (standing_for x y) e
     edge-back e apart = ap (λ k. record e { target = k })
         (ap (λ k. place_before gone (standing_for (p x) (p y) k)) (itself e.target apart)
-        ∙ (ap (place_before gone) (standing-moved e.target apart) ∙ before-without gone (standing_for x y e.target) (standing-stays e.target apart)))
+        ∙ (ap (place_before gone) (standing_for-moved e.target apart) ∙ before-without gone (standing_for x y e.target) (standing_for-other e.target apart)))
 
     edges-back : (es : List EventEdge) → NoneLeads gone es → map (edge_renumbered (place_before gone)) (map (edge_renumbered (standing_for (p x) (p y))) (map (edge_renumbered f) es)) ≡ map (edge_renumbered (standing_for x y)) es
     edges-back [] none = refl

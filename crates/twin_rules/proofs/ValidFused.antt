@@ -3,8 +3,8 @@ use Rattle.std.proofs.Common.{◌≡◌, ℕ, zero, suc, ◌-◌, ◌<◌, ◌�
 use Rattle.std.specs.List.{remove}
 use Rattle.std.proofs.lemmas.List.{length-map}
 use Rattle.std.proofs.lemmas.List.Edits.{length-remove}
+use Rattle.std.proofs.lemmas.Bool.{eqb-true}
 use Rattle.sig_base.specs.declared.limits.TheConstants.{TEXT_MAX}
-use Rattle.mark_laws.proofs.EntailedMarks.{same-place}
 use Rattle.model_core.specs.EventGraph.{EventGraph, EventVertex, WatchedVertex}
 use Rattle.model_core.specs.Run.Step.{no_vertex}
 use Rattle.model_core.specs.Text.Canonical.{canonical}
@@ -19,7 +19,7 @@ use Rattle.model_core.specs.Rules.Fuse.{standing_for, fused_place, fused}
 use Rattle.model_core.proofs.FusedPlaces.{Other, fused-get, fused-below, fused-apart}
 use Rattle.twin_rules.proofs.AlikeVertices.{AreAlike}
 use Rattle.run_laws.proofs.MappedVertices.{WatchedAreApart}
-use Rattle.twin_rules.proofs.FusedRuns.{watched-told}
+use Rattle.twin_rules.proofs.FusedRuns.{watched-other}
 
 -- ---- lists
 
@@ -68,7 +68,7 @@ module _ (g : EventGraph) (keep gone : ℕ) (are : AreAlike g keep gone) where
   takes_as k ps is = by (k == gone) refl where
     by : (b : Bool) → (k == gone) ≡ b → slice_get (parameters_of g) (cond b keep k) ≡ Some ps
     by true same =
-        let at_gone : slice_get (parameters_of g) gone ≡ Some ps = ap (slice_get (parameters_of g)) (sym (same-place k gone same)) ∙ is in
+        let at_gone : slice_get (parameters_of g) gone ≡ Some ps = ap (slice_get (parameters_of g)) (sym (eqb-true k gone same)) ∙ is in
         there_at g.vertices keep ps (let a = are.first in let b = are.within in omega (arith, a, b)) (are.parameters ∙ taken_at g.vertices gone ps at_gone)
     by false apart = is
 
@@ -86,7 +86,7 @@ module _ (g : EventGraph) (keep gone : ℕ) (are : AreAlike g keep gone) where
     some = some-remove g.vertices gone;
     has_one = has-some kept (let is = length-remove g.vertices gone are.within in let a = are.first in let b = are.within in omega (arith, is, a, b));
     edges = λ v there e among. tt;
-    watched = λ v there. (tt, of-among (WatchedAreApart (Other keep gone are.first)) g.watch (WatchedVertex v) (watched-told g keep gone are) there);
+    watched = λ v there. (tt, of-among (WatchedAreApart (Other keep gone are.first)) g.watch (WatchedVertex v) (watched-other g keep gone are) there);
     within = λ v any below. let is = length-remove g.vertices gone are.within in let small = fused-below keep gone are.first v (length g.vertices) below are.within in omega (arith, is, small);
     takes = λ v ps any is. takes_same v ps is;
     apart = λ v w a b. fused-apart keep gone are.first w b v;

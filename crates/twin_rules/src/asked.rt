@@ -90,7 +90,7 @@ impl PairSearch {
     /// A place from which on vertices are to be looked at beside this one: all from the given place up to there were.
     pub(crate) fn next(&self, keep: usize, from: usize) -> usize
         requires skips { SkipsUnchanged self.now }
-        ensures behind { from ≤ result }
+        ensures at_least { from ≤ result }
         ensures asked { (y : ℕ) → from ≤ y → y < result → was_compared self.now keep y ≡ true }
     {
         if keep < self.keep && !self.has_changed(keep) {
@@ -185,30 +185,38 @@ impl PairSearch {
     }
 
     /// Counts all pairs before this one as looked at where it is known that they aren't alike, and else none.
-    fn count_as_compared(&mut self, keep: usize, gone: usize, known: bool)
+    fn count_as_compared(&mut self, keep: usize, gone: usize, none_alike: bool)
         ensures { (g : EventGraph) → NoneAlike g self.old
-            → (known ≡ true → NoneAlikeBefore g (Some (keep, gone))) → NoneAlike g self.new }
+            → (none_alike ≡ true → NoneAlikeBefore g (Some (keep, gone))) → NoneAlike g self.new }
     {
-        if !known {
+        if !none_alike {
             self.up_to(0, 0);
         } else if !self.is_before_pair(keep, gone) {
             self.up_to(keep, gone);
         }
     }
 
-    /// Follows the model when its first twins, `keep` and `gone`, are fused. `known` may say that no pair before them is alike;
+    /// Follows the model when its first twins, `keep` and `gone`, are fused. `none_alike` may say that no pair before them is alike;
     /// if `led` is false, no edge leads to `gone`.
-    pub(crate) fn fuse(&mut self, model: &Model, keep: usize, gone: usize, led: bool, known: bool)
+    pub(crate) fn fuse(
+        &mut self,
+        model: &Model,
+        keep: usize,
+        gone: usize,
+        led: bool,
+        none_alike: bool,
+    )
         requires asked { NoneAlike (graph_of model.now) self.old }
         requires found { first_twins (graph_of model.now) ≡ Some (keep, gone) }
         requires led { led ≡ false → NoneLeadsTo (graph_of model.now) gone }
-        requires known { known ≡ true → NoneAlikeBefore (graph_of model.now) (Some (keep, gone)) }
+        requires none_alike { none_alike ≡ true
+            → NoneAlikeBefore (graph_of model.now) (Some (keep, gone)) }
         ensures asked { NoneAlike (fused (graph_of model.now) keep gone) self.new }
         ensures skips { SkipsUnchanged self.new }
         ensures changed { (x : ℕ) → has_changed self.new.changed x ≡ false
             → some_leads (graph_of model.now) (place_before gone x) gone ≡ false }
     {
-        self.count_as_compared(keep, gone, known);
+        self.count_as_compared(keep, gone, none_alike);
         self.mark(model, gone, led);
         self.move_up(gone);
         self.find_next();

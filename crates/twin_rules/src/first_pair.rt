@@ -13,7 +13,7 @@ use crate::prints::FingerprintTable;
 use crate::row::{Row, next_candidate};
 use model_core::Model;
 
-/// Whether two vertices may be fused. `known` stays true if it is known that they are alike only if they may.
+/// Whether two vertices may be fused. `none_alike` stays true if it is known that they are alike only if they may.
 fn are_twins(
     model: &Model,
     short: bool,
@@ -21,7 +21,7 @@ fn are_twins(
     row: &Row,
     keep: usize,
     gone: usize,
-    known: &mut bool,
+    none_alike: &mut bool,
 ) -> bool
     requires short { short ≡ true → has_short_text (graph_of model.now) ≡ true }
     requires prints { AreFingerprints (graph_of model.now) prints.now }
@@ -29,8 +29,9 @@ fn are_twins(
     requires keep { keep < length model.now.vertices }
     requires gone { gone < length model.now.vertices }
     ensures twins { result ≡ are_twins (graph_of model.now) keep gone }
-    ensures known { known.new ≡ true
-        → (known.old ≡ true) × (result ≡ false → are_alike (graph_of model.now) keep gone ≡ false) }
+    ensures none_alike { none_alike.new ≡ true
+        → (none_alike.old ≡ true)
+        × (result ≡ false → are_alike (graph_of model.now) keep gone ≡ false) }
 {
     if !row.may_be_alike(prints, gone) {
         return false;
@@ -39,11 +40,11 @@ fn are_twins(
         return false;
     }
     let within = is_within_limits(model, short, keep, gone);
-    *known = *known && within;
+    *none_alike = *none_alike && within;
     within
 }
 
-/// The first vertex that may be fused into the one at this place. `known` stays true if it is known that none before it is
+/// The first vertex that may be fused into the one at this place. `none_alike` stays true if it is known that none before it is
 /// alike.
 fn first_twin_of(
     model: &Model,
@@ -51,7 +52,7 @@ fn first_twin_of(
     prints: &FingerprintTable,
     asked: &PairSearch,
     keep: usize,
-    known: &mut bool,
+    none_alike: &mut bool,
 ) -> Option<usize>
     requires short { short ≡ true → has_short_text (graph_of model.now) ≡ true }
     requires prints { AreFingerprints (graph_of model.now) prints.now }
@@ -59,8 +60,8 @@ fn first_twin_of(
     requires skips { SkipsUnchanged asked.now }
     requires keep { keep < length model.now.vertices }
     ensures found { result ≡ first_twin_of (graph_of model.now) keep }
-    ensures known { known.new ≡ true
-        → (known.old ≡ true) × NoneAlikeWith (graph_of model.now) keep result }
+    ensures none_alike { none_alike.new ≡ true
+        → (none_alike.old ≡ true) × NoneAlikeWith (graph_of model.now) keep result }
 {
     let count = model.vertices.len();
     let mut gone = next_candidate(model, prints, asked, keep, keep + 1);
@@ -69,7 +70,7 @@ fn first_twin_of(
     }
     let row = Row::of(model, prints, keep);
     while gone < count {
-        if are_twins(model, short, prints, &row, keep, gone, known) {
+        if are_twins(model, short, prints, &row, keep, gone, none_alike) {
             return Some(gone);
         }
         gone = next_candidate(model, prints, asked, keep, gone + 1);
@@ -78,23 +79,23 @@ fn first_twin_of(
 }
 
 /// The first two vertices that may be fused, if no pair that was looked at is alike. `short` may say that the model is within
-/// the limits. `known` stays true if it is known that no pair before them is alike.
+/// the limits. `none_alike` stays true if it is known that no pair before them is alike.
 pub(crate) fn first_twins_in(
     model: &Model,
     short: bool,
     prints: &FingerprintTable,
     asked: &PairSearch,
-    known: &mut bool,
+    none_alike: &mut bool,
 ) -> Option<(usize, usize)>
     requires short { short ≡ true → has_short_text (graph_of model.now) ≡ true }
     requires prints { AreFingerprints (graph_of model.now) prints.now }
     requires asked { NoneAlike (graph_of model.now) asked.now }
     requires skips { SkipsUnchanged asked.now }
     ensures found { result ≡ first_twins (graph_of model.now) }
-    ensures known { known.new ≡ true → NoneAlikeBefore (graph_of model.now) result }
+    ensures none_alike { none_alike.new ≡ true → NoneAlikeBefore (graph_of model.now) result }
 {
     for keep in 0..model.vertices.len() {
-        if let Some(gone) = first_twin_of(model, short, prints, asked, keep, known) {
+        if let Some(gone) = first_twin_of(model, short, prints, asked, keep, none_alike) {
             return Some((keep, gone));
         }
     }

@@ -65,7 +65,7 @@ pub(crate) fn next_candidate(
     requires prints { AreFingerprints (graph_of model.now) prints.now }
     requires asked { NoneAlike (graph_of model.now) asked.now }
     requires skips { SkipsUnchanged asked.now }
-    ensures behind { from ≤ result }
+    ensures at_least { from ≤ result }
     ensures passed { (y : ℕ) → from ≤ y → y < result
         → are_alike (graph_of model.now) keep y ≡ false }
 {

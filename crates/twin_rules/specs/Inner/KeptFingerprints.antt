@@ -11,29 +11,29 @@ use Rattle.twin_rules.specs.Inner.MarkedVertices.{is_barred}
 
 -- the number of the vertex at this place; all vertices of which nothing is kept have one number
 abbrev pub number_in : List VertexFingerprint → ℕ → ℕ
-number_in known v = option_map_or (λ (p : VertexFingerprint). p.number) (slice_get known v) VERTICES_MAX
+number_in table v = option_map_or (λ (p : VertexFingerprint). p.number) (slice_get table v) VERTICES_MAX
 
 -- the print of the targets of the vertex's edges
 abbrev pub targets_fingerprint_at : EventGraph → List VertexFingerprint → ℕ → ℕ
-targets_fingerprint_at g known x = half (targets_fingerprint (number_in known) (vertex_at g x).edges)
+targets_fingerprint_at g table x = half (targets_fingerprint (number_in table) (vertex_at g x).edges)
 
 -- it is what is kept of the vertex at this place, but that its aims may be old
-pub record IsFingerprintBut (g : EventGraph) (known : List VertexFingerprint) (aims_hold : Type 0) (x : ℕ) (p : VertexFingerprint) : Type 0 where
+pub record IsFingerprintBut (g : EventGraph) (table : List VertexFingerprint) (aims_hold : Type 0) (x : ℕ) (p : VertexFingerprint) : Type 0 where
   pub doing : p.doing ≡ half (vertex_fingerprint (vertex_at g x))
   pub barred : p.barred ≡ is_barred g x
-  pub aims : aims_hold → p.aims ≡ targets_fingerprint_at g known x
+  pub aims : aims_hold → p.aims ≡ targets_fingerprint_at g table x
 
 -- it is what is kept of each vertex
 abbrev pub AreFingerprints : EventGraph → List VertexFingerprint → Type 0
-AreFingerprints g known = (x : ℕ) (p : VertexFingerprint) → slice_get known x ≡ Some p → IsFingerprintBut g known (Unit {0}) x p
+AreFingerprints g table = (x : ℕ) (p : VertexFingerprint) → slice_get table x ≡ Some p → IsFingerprintBut g table (Unit {0}) x p
 
 -- it is, but that the aims of those that have changed may be old
 abbrev pub AreFingerprintsBut : EventGraph → List VertexFingerprint → List Bool → Type 0
-AreFingerprintsBut g known changed = (x : ℕ) (p : VertexFingerprint) → slice_get known x ≡ Some p → IsFingerprintBut g known (has_changed changed x ≡ false) x p
+AreFingerprintsBut g table changed = (x : ℕ) (p : VertexFingerprint) → slice_get table x ≡ Some p → IsFingerprintBut g table (has_changed changed x ≡ false) x p
 
 -- it is, but for all aims
 abbrev pub AreFingerprintsOfAll : EventGraph → List VertexFingerprint → Type 0
-AreFingerprintsOfAll g known = (x : ℕ) (p : VertexFingerprint) → slice_get known x ≡ Some p → (p.doing ≡ half (vertex_fingerprint (vertex_at g x))) × (p.barred ≡ is_barred g x)
+AreFingerprintsOfAll g table = (x : ℕ) (p : VertexFingerprint) → slice_get table x ≡ Some p → (p.doing ≡ half (vertex_fingerprint (vertex_at g x))) × (p.barred ≡ is_barred g x)
 
 -- the second list has the aims of the vertex at this place anew, and all else of the first
 pub record IsRenewed (g : EventGraph) (old now : List VertexFingerprint) (place : ℕ) : Type 0 where

@@ -11,7 +11,7 @@ abbrev pub fingerprints_agree : VertexFingerprint → VertexFingerprint → Bool
 fingerprints_agree own other leads = own.doing == other.doing && (own.aims == other.aims || leads) && not own.barred && not other.barred
 
 -- it is the row of the vertex at this place
-pub record IsRow (g : EventGraph) (known : List VertexFingerprint) (keep : ℕ) (row : Row) : Type 0 where
-  pub print : row.print ≡ slice_get known keep
+pub record IsRow (g : EventGraph) (table : List VertexFingerprint) (keep : ℕ) (row : Row) : Type 0 where
+  pub print : row.print ≡ slice_get table keep
   pub leads : (v : ℕ) → has_mark row.leads v ≡ false → some_leads g keep v ≡ false
   pub loops : row.loops ≡ false → some_leads g keep keep ≡ false

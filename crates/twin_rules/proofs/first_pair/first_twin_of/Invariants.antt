@@ -8,7 +8,7 @@ use Rattle.twin_rules.proofs.first_pair.first_twin_of.Given as goal
 abbrev pub invariant-loop-gone : goal.invariant-loop-gone
 invariant-loop-gone l = record {
   found : first_passing (are_twins (graph_of l.model) l.keep) l.gone (length l.model.vertices) ≡ first_twin_of (graph_of l.model) l.keep;
-  known : l.known ≡ true → (l.initial.known ≡ true) × ((y : ℕ) → y < l.gone → are_alike (graph_of l.model) l.keep y ≡ false);
+  none_alike : l.none_alike ≡ true → (l.initial.none_alike ≡ true) × ((y : ℕ) → y < l.gone → are_alike (graph_of l.model) l.keep y ≡ false);
 }
 
 abbrev pub decreases-loop-gone : goal.decreases-loop-gone

@@ -5,7 +5,7 @@ use Rattle.model_core.specs.Rules.Fuse.{first_twin_of, first_twins}
 use Rattle.model_core.specs.Code.Views.{graph_of}
 use Rattle.twin_rules.specs.Inner.ComparedPairs.{NoneAlikeWith}
 use Rattle.twin_rules.proofs.FirstFound.{found-here, missed-here, none-found}
-use Rattle.twin_rules.proofs.KnownPairs.{none-before-here, one-more-row}
+use Rattle.twin_rules.proofs.PairsSearched.{none-before-here, one-more-row}
 use Rattle.twin_rules.proofs.first_pair.first_twins_in.Goals as goal
 
 pub returns-in-Some-clause-found : goal.returns-in-Some-clause-found
@@ -16,11 +16,11 @@ returns-in-Some-clause-found c =
     found-here (λ (keep : ℕ). option_map {U = ℕ × ℕ} (λ gone. (keep, gone)) (first_twin_of g keep)) (first_twins g) c.loop-keep.keep (length c.args.model.now.vertices) (c.loop-keep.keep, c.in-Some.gone) (omega (arith, below, long))
     (ap (λ (o : Option ℕ). option_map {U = ℕ × ℕ} (λ gone. (c.loop-keep.keep, gone)) o) (sym c.first_twin_of.ensures.found ∙ c.in-Some.is)) c.loop-keep.invariant.found
 
-pub returns-in-Some-clause-known : goal.returns-in-Some-clause-known
-returns-in-Some-clause-known c = λ known.
+pub returns-in-Some-clause-none_alike : goal.returns-in-Some-clause-none_alike
+returns-in-Some-clause-none_alike c = λ none_alike.
     let g = graph_of c.args.model.now in
-    let (was, here) = c.first_twin_of.ensures.known known in
-    none-before-here g c.loop-keep.keep c.in-Some.gone (c.loop-keep.invariant.known was) (subst (NoneAlikeWith g c.loop-keep.keep) c.in-Some.is here)
+    let (was, here) = c.first_twin_of.ensures.none_alike none_alike in
+    none-before-here g c.loop-keep.keep c.in-Some.gone (c.loop-keep.invariant.none_alike was) (subst (NoneAlikeWith g c.loop-keep.keep) c.in-Some.is here)
 
 pub loop-keep-preserved : goal.loop-keep-preserved
 loop-keep-preserved c =
@@ -30,9 +30,9 @@ loop-keep-preserved c =
     record {
       found = missed-here (λ (keep : ℕ). option_map {U = ℕ × ℕ} (λ gone. (keep, gone)) (first_twin_of g keep)) (first_twins g) c.loop-keep.keep (length c.args.model.now.vertices) (omega (arith, below, long))
           (ap (λ (o : Option ℕ). option_map {U = ℕ × ℕ} (λ gone. (c.loop-keep.keep, gone)) o) (sym c.first_twin_of.ensures.found ∙ c.in_default.is)) c.loop-keep.invariant.found;
-      known = λ known.
-          let (was, here) = c.first_twin_of.ensures.known known in
-          one-more-row g c.loop-keep.keep (c.loop-keep.invariant.known was) (subst (NoneAlikeWith g c.loop-keep.keep) c.in_default.is here);
+      none_alike = λ none_alike.
+          let (was, here) = c.first_twin_of.ensures.none_alike none_alike in
+          one-more-row g c.loop-keep.keep (c.loop-keep.invariant.none_alike was) (subst (NoneAlikeWith g c.loop-keep.keep) c.in_default.is here);
     }
 
 pub returns-clause-found : goal.returns-clause-found

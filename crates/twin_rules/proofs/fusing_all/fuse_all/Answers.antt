@@ -20,7 +20,7 @@ fuse-requires c = record {
   asked = c.loop-keep.invariant.asked;
   found = sym c.first_twins_in.ensures.found ∙ c.in-Some.is;
   led = λ none. c.loop-keep.invariant.targets c.in-Some.gone (sym c.has.ensures ∙ none);
-  known = λ known. subst (NoneAlikeBefore (graph_of c.loop-keep.model)) c.in-Some.is (c.first_twins_in.ensures.known known);
+  none_alike = λ none_alike. subst (NoneAlikeBefore (graph_of c.loop-keep.model)) c.in-Some.is (c.first_twins_in.ensures.none_alike none_alike);
 }
 
 pub fuse_at-requires : goal.fuse_at-requires
@@ -34,7 +34,7 @@ renew-requires c =
     let are = (conditions_say g keep gone (first-are-twins g keep gone (sym c.first_twins_in.ensures.found ∙ c.in-Some.is))).alike in
     let changed = c.fuse.new.self.changed in
     subst (λ (h : EventGraph). AreFingerprintsBut h c.forget.new.self changed) (sym c.fuse_at.ensures)
-    (subst (λ (known : List VertexFingerprint). AreFingerprintsBut (fused g keep gone) known changed) (sym c.forget.ensures)
+    (subst (λ (table : List VertexFingerprint). AreFingerprintsBut (fused g keep gone) table changed) (sym c.forget.ensures)
     (prints-after g keep gone are c.loop-keep.prints changed c.loop-keep.invariant.prints c.fuse.ensures.changed))
 
 pub loop-keep-smaller : goal.loop-keep-smaller

@@ -5,7 +5,7 @@ use Rattle.twin_rules.proofs.row.next_candidate.Given as goal
 
 abbrev pub invariant-loop-gone : goal.invariant-loop-gone
 invariant-loop-gone l = record {
-  behind : l.from ≤ l.gone;
+  at_least : l.from ≤ l.gone;
   passed : (y : ℕ) → l.from ≤ y → y < l.gone → are_alike (graph_of l.model) l.keep y ≡ false;
 }
 

@@ -34,6 +34,6 @@ loop-step-preserved c =
     }
 
 pub returns-clause-skips : goal.returns-clause-skips
-returns-clause-skips c = λ v k behind less.
+returns-clause-skips c = λ v k at_least less.
     let past = c.loop-step-test.false in
-    ap (λ (marks : List Bool). has_changed marks k) c.loop-step.invariant.changed ∙ c.loop-step.invariant.skips.far v k (omega (arith, past)) behind less
+    ap (λ (marks : List Bool). has_changed marks k) c.loop-step.invariant.changed ∙ c.loop-step.invariant.skips.far v k (omega (arith, past)) at_least less

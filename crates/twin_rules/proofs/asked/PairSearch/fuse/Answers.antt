@@ -15,7 +15,7 @@ returns-clause-asked c =
     let keep = c.args.keep in
     let gone = c.args.gone in
     let are = (conditions_say g keep gone (first-are-twins g keep gone c.requires.found)).alike in
-    let asked = c.count_as_compared.ensures g c.requires.asked c.requires.known in
+    let asked = c.count_as_compared.ensures g c.requires.asked c.requires.none_alike in
     still-asked g keep gone are c.count_as_compared.new.self c.find_next.new.self
     (c.find_next.ensures.keep ∙ (c.move_up.ensures.keep ∙ ap (place_without gone) c.mark.ensures.keep))
     (c.find_next.ensures.gone ∙ (c.move_up.ensures.gone ∙ ap₂ (λ (k j : ℕ). cond (k == gone) 0 (place_without gone j)) c.mark.ensures.keep c.mark.ensures.gone))

@@ -9,4 +9,4 @@ pub returns-clause-changed : goal.returns-clause-changed
 returns-clause-changed c = λ k. all-changed VERTICES_MAX k
 
 pub returns-clause-skips : goal.returns-clause-skips
-returns-clause-skips c = λ v k behind less. none-skipped (replicate VERTICES_MAX true) VERTICES_MAX v k behind less
+returns-clause-skips c = λ v k at_least less. none-skipped (replicate VERTICES_MAX true) VERTICES_MAX v k at_least less

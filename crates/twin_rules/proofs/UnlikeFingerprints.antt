@@ -54,20 +54,20 @@ same-targets keep gone number (a ∷ as_) (b ∷ bs) none none_too same =
     let rest : map (edge_renumbered (standing_for keep gone)) as_ ≡ map (edge_renumbered (standing_for keep gone)) bs = cc in
     ap₂ (λ n ns. n ∷ ns) (ap number (same-target keep gone a.target b.target here here_too (ap (λ (e : EventEdge). e.target) first))) (same-targets keep gone number as_ bs later later_too rest)
 
-same-aims : (g : EventGraph) (keep gone : ℕ) (known : List VertexFingerprint) → AreAlike g keep gone → some_leads g keep keep ≡ false → some_leads g keep gone ≡ false → targets_fingerprint_at g known keep ≡ targets_fingerprint_at g known gone
-same-aims g keep gone known are loops leads = ap (λ ns. half (list_fingerprint ns)) (same-targets keep gone (number_in known) (vertex_at g keep).edges (vertex_at g gone).edges loops leads are.edges)
+same-aims : (g : EventGraph) (keep gone : ℕ) (table : List VertexFingerprint) → AreAlike g keep gone → some_leads g keep keep ≡ false → some_leads g keep gone ≡ false → targets_fingerprint_at g table keep ≡ targets_fingerprint_at g table gone
+same-aims g keep gone table are loops leads = ap (λ ns. half (list_fingerprint ns)) (same-targets keep gone (number_in table) (vertex_at g keep).edges (vertex_at g gone).edges loops leads are.edges)
 
 -- ---- so they fit
 
-module _ (g : EventGraph) (keep gone : ℕ) (known : List VertexFingerprint) (prints : AreFingerprints g known) (own other : VertexFingerprint) (is : slice_get known keep ≡ Some own) (is_other : slice_get known gone ≡ Some other) (leads : Bool) (none : leads ≡ false → (some_leads g keep keep ≡ false) × (some_leads g keep gone ≡ false)) where
+module _ (g : EventGraph) (keep gone : ℕ) (table : List VertexFingerprint) (prints : AreFingerprints g table) (own other : VertexFingerprint) (is : slice_get table keep ≡ Some own) (is_other : slice_get table gone ≡ Some other) (leads : Bool) (none : leads ≡ false → (some_leads g keep keep ≡ false) × (some_leads g keep gone ≡ false)) where
   aims-fit : AreAlike g keep gone → (b : Bool) → leads ≡ b → (own.aims == other.aims || b) ≡ true
-  aims-fit are true told = by (own.aims == other.aims) where
+  aims-fit are true tested = by (own.aims == other.aims) where
     by : (b : Bool) → (b || true) ≡ true
     by true = refl
     by false = refl
-  aims-fit are false told =
-      let (loops, leads_there) = none told in
-      let same : own.aims ≡ other.aims = (prints keep own is).aims tt ∙ (same-aims g keep gone known are loops leads_there ∙ sym ((prints gone other is_other).aims tt)) in
+  aims-fit are false tested =
+      let (loops, leads_there) = none tested in
+      let same : own.aims ≡ other.aims = (prints keep own is).aims tt ∙ (same-aims g keep gone table are loops leads_there ∙ sym ((prints gone other is_other).aims tt)) in
       ap (λ b. b || false) (eq-eqb own.aims other.aims same)
 
   alike-fit : AreAlike g keep gone → fingerprints_agree own other leads ≡ true
@@ -77,8 +77,8 @@ module _ (g : EventGraph) (keep gone : ℕ) (known : List VertexFingerprint) (pr
       let others : other.barred ≡ false = (prints gone other is_other).barred ∙ ap₂ (λ a b. a || b) are.gone_unwatched are.gone_uncancelled in
       λ i. doing i && aims-fit are leads refl i && not (mine i) && not (others i)
 
-  pub told-apart : fingerprints_agree own other leads ≡ false → are_alike g keep gone ≡ false
-  told-apart unfit = by (are_alike g keep gone) refl where
+  pub unlike_fingerprints : fingerprints_agree own other leads ≡ false → are_alike g keep gone ≡ false
+  unlike_fingerprints unfit = by (are_alike g keep gone) refl where
     by : (b : Bool) → are_alike g keep gone ≡ b → b ≡ false
-    by false told = refl
-    by true told = sym (alike-fit (are_alike-alike g keep gone told)) ∙ unfit
+    by false tested = refl
+    by true tested = sym (alike-fit (are_alike-alike g keep gone tested)) ∙ unfit
