@@ -1,6 +1,5 @@
 -- Two machines that show the same: how they end, and what they show.
-use Rattle.std.proofs.Common.{◌≡◌, ℕ, zero, suc, ◌<◌, ◌≤◌, ◌^◌, ℤ, IsTrue, List, [], ◌∷◌, map, false, nat_lt, refl, sym, ◌∙◌, ap, subst, arith}
-use Rattle.std.proofs.lemmas.Bool.{le-ltb}
+use Rattle.std.proofs.Common.{◌≡◌, ℕ, zero, suc, ◌<◌, ◌≤◌, ◌^◌, ℤ, IsTrue, List, [], ◌∷◌, map, refl, sym, ◌∙◌, ap, subst}
 use Rattle.model_core.specs.EventGraph.{EventGraph}
 use Rattle.model_core.specs.Run.Machine.{Note, On, Going, Look, finished, Move, Rests, Fails, Goes, before, ahead, after, look_of}
 use Rattle.model_core.specs.Run.History.{next_move, start, allowed, look}
@@ -110,10 +109,6 @@ joined_by {S} {T} f g R s t {m} {k} first second joined =
 pub answered_by : {S T : Type 0} (f : S → Move S) (g : T → Move T) (R : S → T → Type 0) (s : S) (t : T) {m : Move S} {k : Move T} → f s ≡ m → g t ≡ k → Answers R m k → Answers R (f s) (g t)
 answered_by {S} {T} f g R s t {m} {k} first second answers =
     subst (λ (m : Move S). Answers R m (g t)) (sym first) (subst (λ (k : Move T). Answers R m k) (sym second) answers)
-
--- no stop time is before 0
-pub none_below_0 : (until : ℕ) → nat_lt until 0 ≡ false
-none_below_0 until = le-ltb until 0 (omega arith)
 
 -- no note begins a history that has none
 pub nothing_begins : (notes : List Note) → notes ≡ [] → Begins (On 0 0 [] ∷ []) notes → ⊥

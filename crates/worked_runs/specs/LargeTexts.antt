@@ -35,8 +35,8 @@ everything version = record (saying version (array_at 9 4096 ∷ array_at 40 409
 
 -- a model whose second array has so many cells, and whose second vertex has so many parameters, as its second change a
 -- `set` of so many targets, and these edges
-abbrev pub parts_behind : ℕ → ℕ → ℕ → List EventEdge → EventGraph
-parts_behind cells parameters targets edges = record {
+abbrev pub with_later_parts : ℕ → ℕ → ℕ → List EventEdge → EventGraph
+with_later_parts cells parameters targets edges = record {
   name = codes "W";
   variables = ranged (codes "N") 0 9 0 ∷ array_of cells ∷ [];
   tables = [];

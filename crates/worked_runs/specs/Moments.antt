@@ -16,5 +16,5 @@ counted_to time n last =
     record { now = now; noted = Some (scalars (last ∷ [])) }
 
 -- at this clock the scalar has this value, so many words were taken from stream 54, and these events are pending
-abbrev pub standing_so : ℕ → ℕ → ℕ → List Entry → Configuration
-standing_so clock n words pending = record { clock = clock; state = scalars (n ∷ []); taken = slice_set (replicate 64 0) 54 words; pending = pending }
+abbrev pub configuration_at : ℕ → ℕ → ℕ → List Entry → Configuration
+configuration_at clock n words pending = record { clock = clock; state = scalars (n ∷ []); taken = slice_set (replicate 64 0) 54 words; pending = pending }

@@ -7,7 +7,7 @@ ghost use Rattle.worked_runs.specs.Models.{changing, ordering};
 ghost use Rattle.worked_runs.specs.Pairs.{Apart, ends, stops, goes_on, divides, leaves, ends_at_4, divides_at_4, a_first, b_first, silent, watching, watching_two, asking, due_after, taking_x, equals_x, drawing, equals_x_and_y};
 
 /// Runs that end, stop, fail or go on for ever are distinguished, although they show the same.
-pub fn ends_tell_apart()
+pub fn models_differ_by_ends()
     ensures ended_or_stopped { Apart ends stops }
     ensures ended_or_going_on { Apart ends goes_on }
     ensures ended_or_failed { Apart ends divides }
@@ -20,7 +20,7 @@ pub fn ends_tell_apart()
 {}
 
 /// Runs that show other notes are distinguished, also where they go on for ever.
-pub fn notes_tell_apart()
+pub fn models_differ_by_notes()
     ensures another_value { Apart (changing (set 0 (whole 2) ∷ []))
         (changing (set 0 (whole 3) ∷ [])) }
     ensures another_order { Apart
@@ -33,8 +33,9 @@ pub fn notes_tell_apart()
     ensures another_order_for_ever { Apart a_first b_first }
 {}
 
-/// The watch list and the parameters of the beginning distinguish models, although the runs are the same.
-pub fn declarations_tell_apart()
+/// The watch list and the parameters of the beginning distinguish models, although the runs are the
+/// same.
+pub fn models_differ_by_declarations()
     ensures variable_or_vertex { Apart
         (watching (codes "X") (codes "A") (WatchedVariable 0 ∷ []))
         (watching (codes "A") (codes "X") (WatchedVertex 1 ∷ [])) }
@@ -58,10 +59,10 @@ pub fn declarations_tell_apart()
         (asking (ranged (codes "X") 0 8 0)) }
 {}
 
-/// One run is enough, also at the last stop time, with the first or the last seed, or with a value at the end of a
-/// range.
+/// One run is enough, also at the last stop time, with the first or the last seed, or with a value
+/// at the end of a range.
 #[tactic(auto, unfolding(rand_pcg::specs::Lcg::state_after))]
-pub fn one_run_tells_apart()
+pub fn models_differ_by_one_run()
     ensures last_stop_time { Apart (due_after (2 ^ 48)) (due_after (2 ^ 48 + 1)) }
     ensures first_seed { Apart (drawing (equals_x_and_y 1203932051 3113183783))
         (drawing (Truth false)) }

@@ -1,4 +1,5 @@
-//! Bounds of expressions of one small model, a few of each row of the table, at the ends of 64 bits among them.
+//! Bounds of expressions of one small model, a few of each row of the table, at the ends of 64 bits
+//! among them.
 #![tactic(auto, unfolding(model_core::specs::Rules::BoundsTable::exact_bounds, model_core::specs::Rules::BoundsTable::least_of, model_core::specs::Rules::BoundsTable::greatest_of))]
 
 ghost use Rattle.std.specs.Prelude.{◌≡◌, pos, neg_ℤ, true, false};
@@ -25,7 +26,8 @@ pub fn ranges_are_declared()
         ≡ truth_bounds true true false }
 {}
 
-/// Sums, differences and products are exact, and an end outside 64 bits is moved to the nearest number.
+/// Sums, differences and products are exact, and an end outside 64 bits is moved to the nearest
+/// number.
 pub fn ends_are_exact_or_moved()
     ensures negative { seen_bounds (Negative y) ≡ numbers_in (neg_ℤ (pos 7)) (pos 5) }
     ensures negative_of_the_least { seen_bounds (Negative least_number)
@@ -76,7 +78,8 @@ pub fn divisors_may_be_zero()
         ≡ perhaps_in (neg_ℤ (pos 2)) (pos 2) }
 {}
 
-/// A comparison can be true where one pair of values makes it true, and false where one makes it false.
+/// A comparison can be true where one pair of values makes it true, and false where one makes it
+/// false.
 pub fn comparisons_go_by_ends()
     ensures below { seen_bounds (Binary Below x y) ≡ either_truth }
     ensures always_below { seen_bounds (Binary Below x (whole 4)) ≡ only_true }

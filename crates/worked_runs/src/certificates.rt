@@ -1,4 +1,5 @@
-//! Certificates and documents: which applications and models they spell, and where they are refused.
+//! Certificates and documents: which applications and models they spell, and where they are
+//! refused.
 
 ghost use Rattle.std.specs.Prelude.{[], ◌∷◌, codes};
 ghost use Rattle.model_core.specs.Rules.Reduction.{Prune, Settle, Drop, Merge, Slice};
@@ -27,7 +28,7 @@ pub fn certificates_are_spelled()
 pub fn certificates_are_refused()
     ensures empty { IsNoCertificateText [] 0 }
     ensures no_end { IsNoCertificateText (codes "certificate prune RUN 1") 23 }
-    ensures behind_end { IsNoCertificateText (codes "certificate end end") 16 }
+    ensures after_end { IsNoCertificateText (codes "certificate end end") 16 }
     ensures no_name { IsNoCertificateText (codes "certificate drop end") 17 }
     ensures no_number { IsNoCertificateText (codes "certificate prune A B end") 20 }
     ensures three_names { IsNoCertificateText (codes "certificate merge A B C end") 22 }

@@ -20,14 +20,15 @@ pub fn variables_are_drawn()
     ensures second_of_the_last_stream { look
         (changing (draw 0 63 1 6 ∷ draw 0 63 1 6 ∷ [])) 42 [] 100 1000
         ≡ showing (At 0 (scalars (6 ∷ [])) ∷ []) (Ended 0) }
-    ensures second_behind_a_set { look
+    ensures second_after_a_set { look
         (changing (draw 1 54 1 6 ∷ set 1 (whole 2) ∷ draw 0 54 1 6 ∷ [])) 42 [] 100 1000
         ≡ showing (At 0 (scalars (3 ∷ [])) ∷ []) (Ended 0) }
     ensures by_weights { look two_rows 42 [] 100 1000
         ≡ showing (At 0 (scalars (3 ∷ 2 ∷ [])) ∷ []) (Ended 0) }
 {}
 
-/// A store at either end of the range stays, and one beyond is a fault, or under `clip` the nearest bound.
+/// A store at either end of the range stays, and one beyond is a fault, or under `clip` the nearest
+/// bound.
 pub fn stores_keep_to_ranges()
     ensures least { kept harbour_n (neg_ℤ (pos 3)) ≡ Ok (neg_ℤ (pos 3)) }
     ensures greatest { kept harbour_n (pos 9) ≡ Ok (pos 9) }
@@ -38,7 +39,8 @@ pub fn stores_keep_to_ranges()
     ensures clipped_above { kept (clipped harbour_n) (pos 10) ≡ Ok (pos 9) }
 {}
 
-/// Carried values are stored before the changes are made, and a store under `clip` takes the nearest bound.
+/// Carried values are stored before the changes are made, and a store under `clip` takes the
+/// nearest bound.
 pub fn parameters_come_first()
     ensures changes_see_them { look (doubling (ranged (codes "X") 0 9 0)) 42 (pos 4 ∷ []) 100 1000
         ≡ showing (At 0 (scalars (8 ∷ [])) ∷ []) (Ended 0) }
@@ -83,7 +85,7 @@ pub fn cells_are_set()
 /// A draw finds its cell on the state that the changes before it left, at the clock of the event.
 #[tactic(auto, unfolding(rand_pcg::specs::Lcg::state_after))]
 pub fn cells_are_drawn()
-    ensures behind_a_set { look
+    ensures after_a_set { look
         (cells (set 0 (whole 1) ∷ draw_cell 1 (Scalar 0) ∷ [])) 42 [] 100 1000
         ≡ showing (At 0 ((pos 1 ∷ []) ∷ (pos 0 ∷ pos 4 ∷ []) ∷ []) ∷ []) (Ended 0) }
     ensures at_its_clock { look

@@ -1,4 +1,5 @@
-//! A clock that counts to 3, a loop that never leaves clock 0, and how a run begins, notes and is over.
+//! A clock that counts to 3, a loop that never leaves clock 0, and how a run begins, notes and is
+//! over.
 
 ghost use Rattle.std.specs.Prelude.{◌≡◌, ℕ, pos, true, false, [], ◌∷◌, replicate, Some, None};
 ghost use Rattle.sig_base.specs.declared.fault.FaultKind.{FaultKind};
@@ -7,7 +8,7 @@ ghost use Rattle.model_core.specs.Run.Machine.{At, On, Ended, Stopped, Faulted, 
 ghost use Rattle.model_core.specs.Run.History.{at_note, noting_before_event, completed, start, look};
 ghost use Rattle.worked_runs.specs.Building.{scalars, showing};
 ghost use Rattle.worked_runs.specs.Models.{clock, strict_clock, loop, backwards, cells, at_two};
-ghost use Rattle.worked_runs.specs.Moments.{counted_to, standing_so};
+ghost use Rattle.worked_runs.specs.Moments.{counted_to, configuration_at};
 
 /// A note comes as the clock leaves a time, where the values are new.
 pub fn clock_counts()
@@ -36,7 +37,8 @@ pub fn loop_goes_on()
         ≡ showing [] (Faulted 0 faults.NegativeDelay) }
 {}
 
-/// A run is over where no event is pending, where the next is due after the stop time, and where one failed.
+/// A run is over where no event is pending, where the next is due after the stop time, and where
+/// one failed.
 pub fn runs_are_over()
     ensures ended { (time : ℕ) → finished (Ended time) ≡ true }
     ensures stopped { finished Stopped ≡ true }
@@ -44,8 +46,8 @@ pub fn runs_are_over()
     ensures not_while_it_goes_on { finished Going ≡ false }
 {}
 
-/// A run begins at clock 0 with the initial values, no words taken and the first vertex's event, which carries the
-/// starting values.
+/// A run begins at clock 0 with the initial values, no words taken and the first vertex's event,
+/// which carries the starting values.
 pub fn runs_begin_at_0()
     ensures { start (cells []) (pos 4 ∷ []) ≡ record {
       now = record {
@@ -59,9 +61,9 @@ pub fn runs_begin_at_0()
     } }
 {}
 
-/// A note comes where any cell of any watched variable differs from the last one, also where it is as it was before
-/// that.
-pub fn notes_tell_what_is_new()
+/// A note comes where any cell of any watched variable differs from the last one, also where it is
+/// as it was before that.
+pub fn notes_have_what_is_new()
     ensures first { at_note 7 [] None ≡ At 7 [] ∷ [] }
     ensures nothing_watched { at_note 7 [] (Some []) ≡ [] }
     ensures same { at_note 7 (scalars (3 ∷ 4 ∷ [])) (Some (scalars (3 ∷ 4 ∷ []))) ≡ [] }
@@ -73,8 +75,8 @@ pub fn notes_tell_what_is_new()
         ≡ At 7 ((pos 3 ∷ pos 4 ∷ []) ∷ []) ∷ [] }
 {}
 
-/// The clock leaves its time where the next event is later, and what it leaves is what the next note is compared with,
-/// also where no note came.
+/// The clock leaves its time where the next event is later, and what it leaves is what the next
+/// note is compared with, also where no note came.
 pub fn the_clock_leaves_its_time()
     ensures later { noting_before_event clock (counted_to 5 2 1) 6
         ≡ record { notes = At 5 (scalars (2 ∷ [])) ∷ []; noted = Some (scalars (2 ∷ [])) } }
@@ -84,17 +86,17 @@ pub fn the_clock_leaves_its_time()
         ≡ record { notes = []; noted = Some (scalars (2 ∷ [])) } }
 {}
 
-/// The note of an event that is completed has its vertex's place in the watch list, and the values and the clock after
-/// it. A variable of the same number is no vertex.
+/// The note of an event that is completed has its vertex's place in the watch list, and the values
+/// and the clock after it. A variable of the same number is no vertex.
 pub fn events_are_noted_by_place()
-    ensures second { completed (at_two [] []) 2 (standing_so 4 3 0 [])
+    ensures second { completed (at_two [] []) 2 (configuration_at 4 3 0 [])
         ≡ On 4 1 (scalars (3 ∷ [])) ∷ [] }
-    ensures unwatched { completed (at_two [] []) 1 (standing_so 4 3 0 []) ≡ [] }
-    ensures variable { completed (at_two [] []) 0 (standing_so 4 3 0 []) ≡ [] }
+    ensures unwatched { completed (at_two [] []) 1 (configuration_at 4 3 0 []) ≡ [] }
+    ensures variable { completed (at_two [] []) 0 (configuration_at 4 3 0 []) ≡ [] }
 {}
 
 /// An event at the stop time comes, and one after it doesn't.
-pub fn runs_stop_behind_their_time()
+pub fn runs_stop_after_their_time()
     ensures at_the_stop_time { look clock 42 [] 5 1000
         ≡ showing (At 0 (scalars (1 ∷ [])) ∷ At 5 (scalars (2 ∷ [])) ∷ []) Stopped }
     ensures before_it { look clock 42 [] 4 1000 ≡ showing (At 0 (scalars (1 ∷ [])) ∷ []) Stopped }

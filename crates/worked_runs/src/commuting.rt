@@ -6,8 +6,8 @@ ghost use Rattle.model_core.specs.Conflicts.Conflict.{in_conflict};
 ghost use Rattle.model_core.specs.Conflicts.Perform.{after_both_events};
 ghost use Rattle.model_core.specs.Conflicts.Orders.{Simultaneous};
 
-/// The second event is found where it then is, although the first one cancels an event ahead of it and schedules
-/// another. Both orders leave the same events, in another order.
+/// The second event is found where it then is, although the first one cancels an event ahead of it
+/// and schedules another. Both orders leave the same events, in another order.
 pub fn places_are_kept()
     ensures simultaneous { Simultaneous cutting (soon 3 ∷ soon 1 ∷ soon 2 ∷ []) 1 2 (soon 1)
         (soon 2) }

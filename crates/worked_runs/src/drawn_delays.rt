@@ -20,7 +20,8 @@ ghost use Rattle.worked_runs.specs.DrawnModels.{after_draw, one_to_six, below_ze
 ghost use Rattle.worked_runs.specs.VersionTexts.{second};
 ghost use Rattle.worked_runs.specs.WrittenParts.{static_fault, figure};
 
-/// Each edge that is taken takes the next word of its stream, and one whose condition is false takes none.
+/// Each edge that is taken takes the next word of its stream, and one whose condition is false
+/// takes none.
 #[tactic(auto, unfolding(rand_pcg::specs::Lcg::state_after))]
 pub fn delays_are_drawn()
     ensures one_a_turn { look (arriving (after_draw 0 one_to_six ∷ [])) 42 [] 12 1000
@@ -73,13 +74,13 @@ pub fn only_drawn_delays_take_words()
         ∷ On 3 2 (scalars (1 ∷ [])) ∷ []) (Ended 3) }
 {}
 
-/// Two events aren't merged where an edge of the first would take its word before a draw of the second. After it, it
-/// may.
+/// Two events aren't merged where an edge of the first would take its word before a draw of the
+/// second. After it, it may.
 #[tactic(auto, unfolding(rand_pcg::specs::Lcg::state_after))]
 pub fn drawn_delays_stay_in_order()
     ensures before { first_failed (merge_conditions (twisted (after_draw 2 one_to_six ∷ []) []) 0 1)
         ≡ Some 6 }
-    ensures behind { first_failed (merge_conditions (twisted [] (after_draw 2 one_to_six ∷ [])) 0 1)
+    ensures after { first_failed (merge_conditions (twisted [] (after_draw 2 one_to_six ∷ [])) 0 1)
         ≡ None }
     ensures first_word_delays { look (twisted (after_draw 2 one_to_six ∷ []) []) 42 [] 100 1000
         ≡ showing (At 0 (scalars (3 ∷ [])) ∷ []) (Ended 4) }
@@ -93,7 +94,8 @@ pub fn streams_of_delays_are_needed()
     ensures of_another { unneeded (drawing_too 53) ≡ 1 ∷ [] }
 {}
 
-/// A drawn delay needs version 2 of a text, is refused at its word `draw` in any other, and is always printed.
+/// A drawn delay needs version 2 of a text, is refused at its word `draw` in any other, and is
+/// always printed.
 pub fn drawn_delays_need_a_version()
     ensures none { first_fault (drawn_in None) ≡ Some (static_fault rules.VersionNeeded 140) }
     ensures first { first_fault (drawn_in (Some (figure 1 8)))

@@ -7,7 +7,8 @@ ghost use Rattle.model_core.specs.Run.History.{look};
 ghost use Rattle.worked_runs.specs.Building.{whole, at_cell, one_over_zero, set, plain_edge, schedule_with, only_if, scalars, showing};
 ghost use Rattle.worked_runs.specs.Models.{at_two};
 
-/// Changes and edges of an event at clock 2 see 2. An edge whose condition isn't 1 evaluates nothing else.
+/// Changes and edges of an event at clock 2 see 2. An edge whose condition isn't 1 evaluates
+/// nothing else.
 pub fn events_see_their_time()
     ensures in_a_value { look (at_two (set 0 Clock ∷ []) []) 42 [] 100 1000
         ≡ showing (At 0 (scalars (0 ∷ [])) ∷ At 2 (scalars (2 ∷ [])) ∷ []) (Ended 2) }

@@ -7,9 +7,10 @@ ghost use Rattle.model_core.specs.Rules.Exclusive.{exclusive};
 ghost use Rattle.worked_runs.specs.Building.{whole, minus};
 ghost use Rattle.worked_runs.specs.BoundedModel.{bounded, x, y, b};
 
-/// A condition and `not` of it are exclusive, in either order, and nothing else that means the same.
+/// A condition and `not` of it are exclusive, in either order, and nothing else that means the
+/// same.
 pub fn negations_are_exclusive()
-    ensures behind { exclusive bounded b (Not b) ≡ true }
+    ensures after { exclusive bounded b (Not b) ≡ true }
     ensures before { exclusive bounded (Not (Binary Below x y)) (Binary Below x y) ≡ true }
     ensures of_another { exclusive bounded (Not (Binary Below x y)) (Binary Below y x) ≡ false }
     ensures itself { exclusive bounded b b ≡ false }

@@ -1,5 +1,5 @@
-//! Fuse on a small model and on others that differ from it in one line: which condition fails, what it gives, and that
-//! the runs look the same.
+//! Fuse on a small model and on others that differ from it in one line: which condition fails, what
+//! it gives, and that the runs look the same.
 
 ghost use Rattle.std.specs.Prelude.{◌≡◌, [], ◌∷◌, Some, None};
 ghost use Rattle.model_core.specs.EventGraph.{CancelNext, WatchedVariable, WatchedVertex};
@@ -10,9 +10,10 @@ ghost use Rattle.model_core.specs.Rules.Fuse.{fuse_conditions, fused, first_twin
 ghost use Rattle.worked_runs.specs.Building.{plain_edge, scalars, showing, x_watched};
 ghost use Rattle.worked_runs.specs.TwinModels.{twins_with, twins, one_of_twins, unlike};
 
-/// Condition 1 of fuse is that both vertices exist and the one that is kept comes first; 2 that neither is watched; 3
-/// that no edge cancels either; 4 that they have the same parameters and changes; 5 that they have the same edges once
-/// what leads to the one is taken to lead to the other.
+/// Condition 1 of fuse is that both vertices exist and the one that is kept comes first; 2 that
+/// neither is watched; 3 that no edge cancels either; 4 that they have the same parameters and
+/// changes; 5 that they have the same edges once what leads to the one is taken to lead to the
+/// other.
 pub fn fuse_has_conditions()
     ensures backwards { first_failed (fuse_conditions twins 2 1) ≡ Some 1 }
     ensures itself { first_failed (fuse_conditions twins 1 1) ≡ Some 1 }
@@ -25,7 +26,8 @@ pub fn fuse_has_conditions()
     ensures other_edges { first_failed (fuse_conditions unlike 1 2) ≡ Some 5 }
 {}
 
-/// Two vertices that schedule each other are twins, and one is left of them. Whatever is watched or cancelled stays.
+/// Two vertices that schedule each other are twins, and one is left of them. Whatever is watched or
+/// cancelled stays.
 pub fn twins_are_fused()
     ensures first { first_twins twins ≡ Some (1, 2) }
     ensures result { fused twins 1 2 ≡ one_of_twins }

@@ -7,8 +7,8 @@ ghost use Rattle.worked_runs.specs.HarbourModel.{harbour, harbour_watching};
 ghost use Rattle.worked_runs.specs.HarbourRuns.{two_events_saved, bare_saved, a_due};
 ghost use Rattle.worked_runs.specs.SavedExamples.{due};
 
-/// The seed is below 2^64, the clock at most 2^48 and the events at most 2^40. There are 64 streams, and each gave at
-/// most 2^52 words.
+/// The seed is below 2^64, the clock at most 2^48 and the events at most 2^40. There are 64
+/// streams, and each gave at most 2^52 words.
 pub fn numbers_of_good_runs_have_limits()
     ensures whole { IsGood harbour two_events_saved }
     ensures least { IsGood harbour bare_saved }
@@ -50,8 +50,8 @@ pub fn values_of_good_runs_are_in_range()
         (record bare_saved { noted = Some (pos 0 ∷ []) }) → ⊥ }
 {}
 
-/// A pending event is due from the clock on and at most 2^63 - 1 later, has a priority of at most 255 and a vertex, and
-/// carries a number of 64 bits for each parameter of that.
+/// A pending event is due from the clock on and at most 2^63 - 1 later, has a priority of at most
+/// 255 and a vertex, and carries a number of 64 bits for each parameter of that.
 pub fn events_of_good_runs_may_be_pending()
     ensures now { IsGoodEntry harbour 5 (due 5 255 0) }
     ensures latest { IsGoodEntry harbour 5 (due 9223372036854775812 0 0) }

@@ -1,5 +1,5 @@
-//! Which written snapshots are good for a model, and where one that isn't is refused: both ends of each number, and
-//! each place.
+//! Which written snapshots are good for a model, and where one that isn't is refused: both ends of
+//! each number, and each place.
 
 ghost use Rattle.std.specs.Prelude.{◌≡◌, [], ◌∷◌, Some, None, codes};
 ghost use Rattle.model_core.specs.EventGraph.{WatchedVertex};
@@ -9,8 +9,8 @@ ghost use Rattle.worked_runs.specs.HarbourRuns.{two_pending, two_events_saved, b
 ghost use Rattle.worked_runs.specs.WrittenParts.{figure, huge, plain_figure, minus_figure, plain_huge, minus_huge};
 ghost use Rattle.worked_runs.specs.WrittenSnapshots.{stream_part, words_of, value_part, carried, minus_carried, event_part, numbered_so, bare, taking_streams, with_two_streams, with_values, with_n, with_flags, with_z, with_noted, with_pending, with_run_at, with_a, with_event_of, bad_stream, bad_value, bad_noted, bad_event};
 
-/// The two parts of the seed are below 2^32, the clock is at most 2^48, and the events are at most 2^40. A number above
-/// 2^63 - 1 is none of these.
+/// The two parts of the seed are below 2^32, the clock is at most 2^48, and the events are at most
+/// 2^40. A number above 2^63 - 1 is none of these.
 pub fn seed_clock_and_events_have_limits()
     ensures least { bad_at harbour bare ≡ None }
     ensures greatest { bad_at harbour
@@ -36,8 +36,8 @@ pub fn seed_clock_and_events_have_limits()
         (numbered_so (figure 0 14) (figure 0 25) (figure 0 40) (huge 60)) ≡ Some 30 }
 {}
 
-/// Streams are below 64 and rise, each from the one before it on, and each gave from 1 to 2^52 words. The one that
-/// doesn't rise is reported itself.
+/// Streams are below 64 and rise, each from the one before it on, and each gave from 1 to 2^52
+/// words. The one that doesn't rise is reported itself.
 pub fn streams_rise()
     ensures first_and_last { bad_at harbour (with_two_streams 0 63) ≡ None }
     ensures next_to_one_another { bad_at harbour (with_two_streams 62 63) ≡ None }
@@ -58,8 +58,8 @@ pub fn streams_rise()
         (taking_streams (stream_part 40 (figure 54 47) (huge 50) ∷ [])) ≡ Some 40 }
 {}
 
-/// There is one `value` part for each variable, in order. Where one is missing at the end, the `end` is reported; one
-/// too many, or with another name, is reported itself.
+/// There is one `value` part for each variable, in order. Where one is missing at the end, the
+/// `end` is reported; one too many, or with another name, is reported itself.
 pub fn each_variable_has_its_values()
     ensures none { bad_at harbour (with_values []) ≡ Some 200 }
     ensures last_missing { bad_at harbour
@@ -103,7 +103,8 @@ pub fn each_variable_has_its_values()
         ∷ value_part 100 (codes "Z") (plain_figure 0 108 ∷ []) ∷ [])) ≡ Some 100 }
 {}
 
-/// Each `value` part has as many values as its variable has cells, each in its range and below 2^63.
+/// Each `value` part has as many values as its variable has cells, each in its range and below
+/// 2^63.
 pub fn values_are_in_range()
     ensures least { bad_at harbour (with_n (minus_figure 3 68 ∷ [])) ≡ None }
     ensures greatest { bad_at harbour (with_n (plain_figure 9 68 ∷ [])) ≡ None }
@@ -127,8 +128,8 @@ pub fn values_are_in_range()
     ensures too_large_below { bad_at harbour (with_z (minus_huge 98)) ≡ Some 90 }
 {}
 
-/// `noted` may be left out. If it is there it has one value in range for each watched cell, in the order of the watch
-/// list, and none where nothing but vertices is watched.
+/// `noted` may be left out. If it is there it has one value in range for each watched cell, in the
+/// order of the watch list, and none where nothing but vertices is watched.
 pub fn noted_values_are_those_watched()
     ensures in_order { bad_at harbour
         (with_noted (plain_figure 0 126 ∷ plain_figure 1 128 ∷ minus_figure 3 130 ∷ [])) ≡ None }
@@ -157,8 +158,9 @@ pub fn noted_values_are_those_watched()
         (with_noted (plain_figure 0 126 ∷ [])) ≡ Some 120 }
 {}
 
-/// Each `pending` part has ticks of at most 2^63 - 1, a priority of at most 255, the name of a vertex and as many
-/// values as that has parameters, each from -2^63 to 2^63 - 1. A value need not be in its parameter's range.
+/// Each `pending` part has ticks of at most 2^63 - 1, a priority of at most 255, the name of a
+/// vertex and as many values as that has parameters, each from -2^63 to 2^63 - 1. A value need not
+/// be in its parameter's range.
 pub fn pending_events_are_known()
     ensures least { bad_at harbour (with_run_at (figure 0 138) (figure 0 140)) ≡ None }
     ensures greatest { bad_at harbour
@@ -188,8 +190,9 @@ pub fn pending_events_are_known()
         (with_a (carried 0 ∷ carried 9223372036854775808 ∷ [])) ≡ Some 140 }
 {}
 
-/// Of two parts that are bad the first is reported, also where a variable has no value, which is reported at the `end`.
-pub fn the_first_bad_part_is_told()
+/// Of two parts that are bad the first is reported, also where a variable has no value, which is
+/// reported at the `end`.
+pub fn the_first_bad_part_is_reported()
     ensures seed_before_clock { bad_at harbour
         (numbered_so (huge 14) (figure 0 25) (huge 40) (figure 0 60)) ≡ Some 9 }
     ensures clock_before_events { bad_at harbour
@@ -213,11 +216,11 @@ pub fn the_first_bad_part_is_told()
         (record bare { values = []; pending = bad_event ∷ [] }) ≡ Some 130 }
 {}
 
-/// A good snapshot spells its numbers, the words of each stream, the values in order, and the events in order: the time
-/// of each is the clock and its ticks.
-pub fn good_snapshots_stand_for_runs()
+/// A good snapshot spells its numbers, the words of each stream, the values in order, and the
+/// events in order: the time of each is the clock and its ticks.
+pub fn good_snapshots_are_of_runs()
     ensures is_good { bad_at harbour two_pending ≡ None }
-    ensures stands { saved_run harbour two_pending ≡ two_events_saved }
+    ensures is_saved { saved_run harbour two_pending ≡ two_events_saved }
     ensures bare_is_good { bad_at harbour bare ≡ None }
     ensures of_a_bare_one { saved_run harbour bare ≡ bare_saved }
     ensures nothing_watched { (saved_run harbour (with_noted [])).noted ≡ Some [] }

@@ -37,13 +37,14 @@ pub fn operators_have_levels()
         (Binary 17 Or (reading (codes "B") 17) (reading (codes "C") 22))) }
 {}
 
-/// A part is at the place where its first token begins, and a parenthesis counts as a token of its expression.
+/// A part is at the place where its first token begins, and a parenthesis counts as a token of its
+/// expression.
 pub fn expressions_have_places()
     ensures parentheses { IsSpelled expression_format (codes "((X))")
         (Scalar 0 (spelled (codes "X") 2)) }
     ensures group { IsSpelled expression_format (codes "(1 - 2) - 3")
         (Binary 0 Subtract (Binary 0 Subtract (constant 1 1) (constant 2 5)) (constant 3 10)) }
-    ensures group_behind { IsSpelled expression_format (codes "1 - (2 - 3)")
+    ensures group_after { IsSpelled expression_format (codes "1 - (2 - 3)")
         (Binary 0 Subtract (constant 1 0) (Binary 4 Subtract (constant 2 5) (constant 3 9))) }
     ensures call { IsSpelled expression_format (codes " min(X, max(clk, 1))")
         (Binary 1 Least (reading (codes "X") 5) (Binary 8 Greatest (Clock 12) (constant 1 17))) }
@@ -113,10 +114,10 @@ pub fn texts_are_refused()
         (codes "model M; var N : 0..3 = 5; vertex RUN { set Q := 1; }") 53 }
     ensures end_too_soon { IsRefusedAt (codes "model M; end") 9 }
     ensures second_end { IsRefusedAt (codes "model M; vertex A { } end end") 26 }
-    ensures variable_behind_watch { IsRefusedAt (codes "model M; watch N; var N : 0..1 = 0;") 18 }
+    ensures variable_after_watch { IsRefusedAt (codes "model M; watch N; var N : 0..1 = 0;") 18 }
     ensures no_row { IsRefusedAt (codes "model M; table T { } vertex A { } end") 19 }
     ensures no_parameter { IsRefusedAt (codes "model M; vertex A() { } end") 18 }
-    ensures change_behind_edge { IsRefusedAt
+    ensures change_after_edge { IsRefusedAt
         (codes "model M; vertex A { schedule A; set X := 1; } end") 32 }
 {}
 

@@ -9,7 +9,8 @@ ghost use Rattle.model_core.specs.Text.HistoryText.{note_line, end_line, history
 ghost use Rattle.worked_runs.specs.Models.{clock, strict_clock, loop, backwards, cut, cancel_three};
 ghost use Rattle.worked_runs.specs.Texts.{desk};
 
-/// A line has the watched variables in order: words for truth values, and an array's values joined by commas.
+/// A line has the watched variables in order: words for truth values, and an array's values joined
+/// by commas.
 pub fn notes_have_lines()
     ensures below_0 { note_line desk (At 7 ((negsuc 0 ∷ []) ∷ [])) ≡ codes "at 7 N=-1\n" }
     ensures vertex { note_line desk (On 7 1 ((pos 3 ∷ []) ∷ [])) ≡ codes "on 7 SERVE N=3\n" }
@@ -22,7 +23,8 @@ pub fn notes_have_lines()
     ensures nothing_watched { note_line loop (At 20 []) ≡ codes "at 20\n" }
 {}
 
-/// The last line has the standing of a run: with the clock's time, the stop time, the fault or the budget.
+/// The last line has the standing of a run: with the clock's time, the stop time, the fault or the
+/// budget.
 pub fn ends_have_lines()
     ensures ended { end_line 100 50 (Ended 2) ≡ codes "ended 2\n" }
     ensures stopped { end_line 100 50 Stopped ≡ codes "stopped 100\n" }

@@ -1,6 +1,7 @@
 //! Changes of which one faults, and what they leave.
 
 ghost use Rattle.std.specs.Prelude.{◌≡◌, pos, [], ◌∷◌};
+ghost use Rattle.model_core.specs.EventGraph.{Binary, Add, Scalar};
 ghost use Rattle.model_core.specs.Run.Changes.{one_more};
 ghost use Rattle.model_core.specs.Run.LeftByFaults.{left_by_changes};
 ghost use Rattle.worked_runs.specs.Building.{set, draw, whole};
@@ -18,9 +19,13 @@ pub fn stores_before_a_fault_stay()
     ensures none_of_a_draw_outside { (left_by_changes (changing []) 42 0
         (draw 0 54 7 9 ∷ draw 0 54 1 6 ∷ []) (as_it_begins (changing []))).state
         ≡ (as_it_begins (changing [])).state }
-    ensures nothing_behind_a_fault { left_by_changes (cells []) 42 0
+    ensures nothing_after_a_fault { left_by_changes (cells []) 42 0
         (set 0 (whole 3) ∷ set 0 (whole 10) ∷ set 0 (whole 5) ∷ []) (as_it_begins (cells []))
         ≡ with_state ((pos 3 ∷ []) ∷ (pos 0 ∷ pos 0 ∷ []) ∷ []) (as_it_begins (cells [])) }
+    ensures first_of_two_raises { left_by_changes (cells []) 42 0
+        (set 0 (Binary Add (Scalar 0) (whole 6)) ∷ set 0 (Binary Add (Scalar 0) (whole 6)) ∷ [])
+        (as_it_begins (cells []))
+        ≡ with_state ((pos 6 ∷ []) ∷ (pos 0 ∷ pos 0 ∷ []) ∷ []) (as_it_begins (cells [])) }
 {}
 
 /// A draw whose store faults has taken its word, and one whose index faults has taken none.

@@ -19,10 +19,11 @@ pub fn plain_edges_are_alone()
     ensures none { plain_urgent (event [] [] (schedule 0 (whole 1) ∷ [])) ≡ None }
 {}
 
-/// Each condition of merge fails alone. The first is that the two exist and the plain urgent edge leads from one to the
-/// other, the second that the other has none, the third that the model is single urgent, the fourth that the other isn't
-/// watched, the fifth that the one doesn't cancel it, the sixth that the edges besides never fault and read nothing that
-/// the other writes, the seventh that the other happens unseen where the one is watched, and the eighth that the result
+/// Each condition of merge fails alone. The first is that the two exist and the plain urgent edge
+/// leads from one to the other, the second that the other has none, the third that the model is
+/// single urgent, the fourth that the other isn't watched, the fifth that the one doesn't cancel
+/// it, the sixth that the edges besides never fault and read nothing that the other writes, the
+/// seventh that the other happens unseen where the one is watched, and the eighth that the result
 /// is within the limits.
 pub fn merge_has_conditions()
     ensures holds { first_failed (merge_conditions three_at_once 1 2) ≡ None }
@@ -62,7 +63,8 @@ pub fn merge_has_conditions()
     ensures as_many_bytes { first_failed (merge_conditions (long_named 4194170) 1 2) ≡ None }
 {}
 
-/// The changes of the other come after those of the one and a `set` of its parameters, and its edges after the others.
+/// The changes of the other come after those of the one and a `set` of its parameters, and its
+/// edges after the others.
 pub fn merge_has_a_result()
     ensures chain_of_three { merged three_at_once 1 2 ≡ chain_merged }
     ensures of_bank { merged bank 0 1 ≡ bank_merged }

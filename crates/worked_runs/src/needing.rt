@@ -13,8 +13,9 @@ ghost use Rattle.worked_runs.specs.Building.{whole, at_cell, set, draw, schedule
 ghost use Rattle.worked_runs.specs.Models.{bank, bank_enter, cancel_three, two_draws};
 ghost use Rattle.worked_runs.specs.NeedingModels.{unfaulting, strict, with_cells, carrying_variable, both_grow, unseen_bank, one_draw, growing, x_alone, two_carried, one_carried};
 
-/// Changes and edges read the variables in them but for their targets, and parameters and targets are written.
-pub fn uses_are_told()
+/// Changes and edges read the variables in them but for their targets, and parameters and targets
+/// are written.
+pub fn uses_are_listed()
     ensures reads { vertex_reads bank_enter ≡ 0 ∷ 3 ∷ 2 ∷ 1 ∷ [] }
     ensures writes { vertex_writes bank_enter ≡ 0 ∷ 3 ∷ 2 ∷ [] }
     ensures table { use_table bank
@@ -25,7 +26,8 @@ pub fn uses_are_told()
         ∷ [] }
 {}
 
-/// Variables that are watched, given at the start, compared or decisive are needed, whatever else is.
+/// Variables that are watched, given at the start, compared or decisive are needed, whatever else
+/// is.
 pub fn some_variables_are_needed_at_once()
     ensures none { unneeded (unfaulting [] [] (both_grow ∷ []) (schedule_with 1 3 5 ∷ []))
         ≡ 0 ∷ 1 ∷ [] }
@@ -83,8 +85,9 @@ pub fn streams_are_needed_whole()
         ≡ 0 ∷ 1 ∷ [] }
 {}
 
-/// Condition 1 of slice is that the list isn't empty, and condition 2 that it lists exactly the variables that aren't
-/// needed, in order. What is stored in them goes with them, and those that stay are numbered anew.
+/// Condition 1 of slice is that the list isn't empty, and condition 2 that it lists exactly the
+/// variables that aren't needed, in order. What is stored in them goes with them, and those that
+/// stay are numbered anew.
 pub fn slice_has_conditions()
     ensures holds { first_failed (slice_conditions bank (3 ∷ [])) ≡ None }
     ensures empty { first_failed (slice_conditions bank []) ≡ Some 1 }

@@ -30,7 +30,8 @@ pub fn parts_are_apart()
     ensures without_end { deep_in_front 1 (codes "A + B - C") ≡ Some 6 }
 {}
 
-/// A part may have 256 openings: a text that goes on so is refused at its end, and one more is too deep.
+/// A part may have 256 openings: a text that goes on so is refused at its end, and one more is too
+/// deep.
 pub fn a_part_has_256_openings()
     ensures none_too_deep { deep_in OPENINGS_MAX
         (codes "model M; vertex A { set X := " ++ replicate 256 40) ≡ None }

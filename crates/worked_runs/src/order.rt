@@ -32,8 +32,8 @@ pub fn events_come_in_order()
         ≡ showing (At 0 [] ∷ On 3 1 [] ∷ []) (Ended 3) }
 {}
 
-/// A cancelling edge with values takes the next event that carries exactly these, and one for all takes all. Delays are
-/// looked at before values, and values as the event comes.
+/// A cancelling edge with values takes the next event that carries exactly these, and one for all
+/// takes all. Delays are looked at before values, and values as the event comes.
 pub fn equal_events_are_cancelled()
     ensures once { look (cut (cancel_three ∷ [])) 42 [] 100 1000
         ≡ showing
@@ -52,8 +52,9 @@ pub fn equal_events_are_cancelled()
         ≡ showing (At 0 (scalars (0 ∷ [])) ∷ []) (Ended 0) }
 {}
 
-/// Of an edge the condition is looked at first, on the state that the changes left, then the delay, and then the values from left to
-/// right; those of a cancelling edge too, also where there is nothing to cancel.
+/// Of an edge the condition is looked at first, on the state that the changes left, then the delay,
+/// and then the values from left to right; those of a cancelling edge too, also where there is
+/// nothing to cancel.
 pub fn edges_evaluate_in_order()
     ensures condition_before_delay { look
         (cut (only_if is_one_over_zero late_and_bad ∷ [])) 42 [] 100 1000
@@ -71,7 +72,7 @@ pub fn edges_evaluate_in_order()
         (ordering (plain_edge Urgent 1 (big_sum ∷ [])
         ∷ plain_edge Urgent 1 (one_over_zero ∷ []) ∷ [])) 42 [] 100 1000
         ≡ showing [] (Faulted 0 faults.Overflow) }
-    ensures behind_the_changes { look
+    ensures after_the_changes { look
         (at_two (set 0 (whole 5) ∷ [])
         (only_if (Binary Equal (Scalar 0) (whole 5))
         (plain_edge (Schedule (Fixed (Scalar 0)) 5) 2 (Scalar 0 ∷ [])) ∷ [])) 42 [] 100 1000
@@ -83,7 +84,8 @@ pub fn edges_evaluate_in_order()
         ≡ showing (At 0 (scalars (0 ∷ [])) ∷ []) (Faulted 2 faults.RangeOutside) }
 {}
 
-/// The values that an edge carries go into the parameters of its vertex, each into its own, as the event comes.
+/// The values that an edge carries go into the parameters of its vertex, each into its own, as the
+/// event comes.
 pub fn carried_values_arrive()
     ensures in_order { look
         (taking_two (ranged (codes "X") 0 9 0) (ranged (codes "Y") 0 9 0)

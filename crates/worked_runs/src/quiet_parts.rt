@@ -1,4 +1,5 @@
-//! Stores, changes and edges of one small model, whose declared ranges decide whether they can fault.
+//! Stores, changes and edges of one small model, whose declared ranges decide whether they can
+//! fault.
 #![tactic(auto, unfolding(model_core::specs::Rules::BoundsTable::exact_bounds))]
 
 ghost use Rattle.std.specs.Prelude.{◌≡◌, pos, neg_ℤ, true, false, [], ◌∷◌};
@@ -8,7 +9,8 @@ ghost use Rattle.model_core.specs.Rules.BoundsOfParts.{quiet_store, choice_bound
 ghost use Rattle.worked_runs.specs.Building.{whole, at_variable, at_cell, set, plain_edge, only_if};
 ghost use Rattle.worked_runs.specs.BoundedModel.{bounded, numbers_in, either_truth, x, y, b, over_x_is_1};
 
-/// A store is quiet where the variable's range holds the bounds, or the variable is clipped or holds truth values.
+/// A store is quiet where the variable's range holds the bounds, or the variable is clipped or
+/// holds truth values.
 pub fn stores_may_be_quiet()
     ensures whole_range { quiet_store (variable_at bounded 0) (numbers_in (pos 0) (pos 3)) ≡ true }
     ensures above { quiet_store (variable_at bounded 0) (numbers_in (pos 0) (pos 4)) ≡ false }
@@ -19,7 +21,8 @@ pub fn stores_may_be_quiet()
     ensures truth { quiet_store (variable_at bounded 2) either_truth ≡ true }
 {}
 
-/// A change is quiet where its right sides, indexes and stores are, and a draw's bounds are those of what it takes from.
+/// A change is quiet where its right sides, indexes and stores are, and a draw's bounds are those
+/// of what it takes from.
 pub fn changes_may_be_quiet()
     ensures set { quiet_change bounded (set 0 (whole 3)) ≡ true }
     ensures set_outside { quiet_change bounded (set 0 y) ≡ false }
@@ -41,7 +44,8 @@ pub fn changes_may_be_quiet()
     ensures draw_clipped { quiet_change bounded (Draw (at_variable 6) 54 (ByTable 0)) ≡ true }
 {}
 
-/// An edge is quiet where its condition, its values and its delay are, and the delay is never below 0.
+/// An edge is quiet where its condition, its values and its delay are, and the delay is never below
+/// 0.
 pub fn edges_may_be_quiet()
     ensures scheduled { quiet_edge bounded
         (only_if b (plain_edge (Schedule (Fixed x) 5) 0 (y ∷ []))) ≡ true }

@@ -29,7 +29,8 @@ pub fn starting_values_are_in_range()
     ensures too_many { allowed (asking (ranged (codes "X") 2 9 5)) (pos 5 ∷ pos 5 ∷ []) ≡ false }
 {}
 
-/// A state in range has as many values of each variable as it declares, all in its range: here a scalar and two cells.
+/// A state in range has as many values of each variable as it declares, all in its range: here a
+/// scalar and two cells.
 pub fn states_are_in_range()
     ensures all_in_range { in_range (cells []) ((pos 0 ∷ []) ∷ (pos 9 ∷ pos 0 ∷ []) ∷ []) ≡ true }
     ensures last_cell_above { in_range (cells []) ((pos 0 ∷ []) ∷ (pos 0 ∷ pos 10 ∷ []) ∷ [])

@@ -1,4 +1,5 @@
-//! Reductions of a small model: which condition fails, which application is bad, and which rule is first.
+//! Reductions of a small model: which condition fails, which application is bad, and which rule is
+//! first.
 
 ghost use Rattle.std.specs.Prelude.{◌≡◌, [], ◌∷◌, Some, None, codes};
 ghost use Rattle.model_core.specs.Rules.Prune.{pruned, prune_conditions, first_prune};
@@ -8,8 +9,8 @@ ghost use Rattle.model_core.specs.Rules.Certificate.{certificate};
 ghost use Rattle.model_core.specs.Rules.Verdict.{verdict, Sound, Rejected, Differs};
 ghost use Rattle.worked_runs.specs.Reductions.{idle, once_pruned, twice_pruned};
 
-/// Condition 1 of prune is that its vertex and edge exist, and condition 2 that the edge's condition is
-/// refuted. Edges are counted from 1 in an application.
+/// Condition 1 of prune is that its vertex and edge exist, and condition 2 that the edge's
+/// condition is refuted. Edges are counted from 1 in an application.
 pub fn conditions_have_numbers()
     ensures none { failed_condition idle (Prune (codes "A") 1) ≡ None }
     ensures not_refuted { failed_condition idle (Prune (codes "RUN") 1) ≡ Some 2 }
@@ -50,8 +51,8 @@ pub fn the_strategy_ends()
     ensures not_before_its_end { Strategy idle (Prune (codes "A") 1 ∷ []) once_pruned → ⊥ }
 {}
 
-/// A reduction is sound where its applications lead to the other model. Else the first bad one is reported, and where
-/// none is bad, that they lead elsewhere.
+/// A reduction is sound where its applications lead to the other model. Else the first bad one is
+/// reported, and where none is bad, that they lead elsewhere.
 pub fn reductions_are_judged()
     ensures sound { verdict idle (Prune (codes "A") 1 ∷ Prune (codes "A") 2 ∷ []) twice_pruned
         ≡ Sound }

@@ -7,8 +7,9 @@ ghost use Rattle.worked_runs.specs.HarbourRuns.{two_events_saved, bare_saved};
 ghost use Rattle.worked_runs.specs.Models.{clock};
 ghost use Rattle.worked_runs.specs.SavedExamples.{saved_clock};
 
-/// The seed is written as its quotient by 2^32 and its rest, streams that gave no word are left out, ticks count from
-/// the clock on, events are in the order in which they are kept, and lists are joined by commas.
+/// The seed is written as its quotient by 2^32 and its rest, streams that gave no word are left
+/// out, ticks count from the clock on, events are in the order in which they are kept, and lists
+/// are joined by commas.
 pub fn saved_runs_have_texts()
     ensures of_the_clock { snapshot_text clock saved_clock
         ≡ codes "snapshot\nseed 0 42\nclk 5\nevents 2\nvalue N 2\nnoted 1\npending 5 5 RUN\nend\n" }

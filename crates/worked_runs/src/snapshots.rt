@@ -6,9 +6,9 @@ ghost use Rattle.worked_runs.specs.GrammarTexts.{IsSpelled};
 ghost use Rattle.worked_runs.specs.SnapshotTexts.{IsNoSnapshotText};
 ghost use Rattle.worked_runs.specs.SpelledSnapshots.{until_streams, shortest, each_part, each_part_text, words_for_names, too_large};
 
-/// Each part is at the place of its first token. Streams, values, noted values and events may be left out, `noted` may
-/// have no values and an event none, and the words of the grammar may be names. A number above 2^63 - 1 has no value,
-/// but an event's values are read from their digits.
+/// Each part is at the place of its first token. Streams, values, noted values and events may be
+/// left out, `noted` may have no values and an event none, and the words of the grammar may be
+/// names. A number above 2^63 - 1 has no value, but an event's values are read from their digits.
 pub fn snapshots_are_spelled()
     ensures shortest { IsSpelled snapshot_format
         (codes "snapshot seed 1 2 clk 3 events 4 end # of it") shortest }
@@ -33,10 +33,10 @@ pub fn snapshots_are_refused()
     ensures no_clock { IsNoSnapshotText (codes "snapshot seed 1 2 events 4 end") 18 }
     ensures no_events { IsNoSnapshotText (codes "snapshot seed 1 2 clk 3 end") 24 }
     ensures no_end { IsNoSnapshotText (until_streams ++ codes "value N 1") 42 }
-    ensures behind_the_end { IsNoSnapshotText (until_streams ++ codes "end end") 37 }
+    ensures after_the_end { IsNoSnapshotText (until_streams ++ codes "end end") 37 }
     ensures stream_without_words { IsNoSnapshotText (until_streams ++ codes "stream 5 end") 42 }
     ensures sign_of_a_stream { IsNoSnapshotText (until_streams ++ codes "stream -5 6 end") 40 }
-    ensures stream_behind_values { IsNoSnapshotText
+    ensures stream_after_values { IsNoSnapshotText
         (until_streams ++ codes "value N 1 stream 5 6 end") 43 }
     ensures value_without_a_name { IsNoSnapshotText (until_streams ++ codes "value 1 end") 39 }
     ensures value_of_a_reserved_word { IsNoSnapshotText
@@ -45,14 +45,14 @@ pub fn snapshots_are_refused()
     ensures values_without_a_comma { IsNoSnapshotText
         (until_streams ++ codes "value N 1 2 end") 43 }
     ensures values_in_parentheses { IsNoSnapshotText (until_streams ++ codes "value N (1) end") 41 }
-    ensures comma_behind_values { IsNoSnapshotText (until_streams ++ codes "value N 1, end") 44 }
+    ensures comma_after_values { IsNoSnapshotText (until_streams ++ codes "value N 1, end") 44 }
     ensures two_signs { IsNoSnapshotText (until_streams ++ codes "value N --1 end") 42 }
     ensures truth { IsNoSnapshotText (until_streams ++ codes "value N true end") 41 }
-    ensures value_behind_noted { IsNoSnapshotText
+    ensures value_after_noted { IsNoSnapshotText
         (until_streams ++ codes "noted 1 value N 1 end") 41 }
     ensures noted_twice { IsNoSnapshotText (until_streams ++ codes "noted 1 noted 1 end") 41 }
-    ensures comma_behind_noted { IsNoSnapshotText (until_streams ++ codes "noted , end") 39 }
-    ensures noted_behind_events { IsNoSnapshotText
+    ensures comma_after_noted { IsNoSnapshotText (until_streams ++ codes "noted , end") 39 }
+    ensures noted_after_events { IsNoSnapshotText
         (until_streams ++ codes "pending 1 2 A noted end") 47 }
     ensures event_without_priority { IsNoSnapshotText
         (until_streams ++ codes "pending 1 A end") 43 }

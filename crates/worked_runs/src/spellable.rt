@@ -1,4 +1,5 @@
-//! Parts that a text can write: their openings are those of their canonical texts; and parts that no text writes.
+//! Parts that a text can write: their openings are those of their canonical texts; and parts that
+//! no text writes.
 
 ghost use Rattle.std.specs.Prelude.{◌≡◌, negsuc, [], ◌∷◌, map, codes};
 ghost use Rattle.model_core.specs.EventGraph.{Number, Clock, Scalar, Cell, Negative, Not, Binary, If, Equal, Least, Or, CancelNext, CancelEqual};
@@ -28,7 +29,8 @@ pub fn openings_are_those_of_the_text()
     ensures edges { map edge_openings serve.edges ≡ openings_of_edges }
 {}
 
-/// A negative number is a sign before a number, and there is no name that is a reserved word or empty.
+/// A negative number is a sign before a number, and there is no name that is a reserved word or
+/// empty.
 pub fn some_parts_are_not_written()
     ensures negative_number { SpellableExpression 3 (Number (negsuc 0)) → ⊥ }
     ensures signed_number { SpellableExpression 3 (Negative (whole 1)) }

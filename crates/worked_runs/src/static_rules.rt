@@ -1,5 +1,5 @@
-//! Static rules: written models that break them, each with what is broken at which byte, and the first fault.
-//! The texts are beside the models in `specs/WrittenModels.antt`.
+//! Static rules: written models that break them, each with what is broken at which byte, and the
+//! first fault. The texts are beside the models in `specs/WrittenModels.antt`.
 
 ghost use Rattle.std.specs.Prelude.{◌≡◌, Some, None, [], ◌∷◌, map, codes, replicate};
 ghost use Rattle.std.specs.List.{range_with_len};
@@ -37,8 +37,8 @@ pub fn names_are_declared()
         ∷ static_fault rules.UnknownName 146 ∷ [] }
 {}
 
-/// Variables, tables and vertices share their names, and no list names anything twice. What is declared again is
-/// reported at the later name, and means its first declaration.
+/// Variables, tables and vertices share their names, and no list names anything twice. What is
+/// declared again is reported at the later name, and means its first declaration.
 pub fn names_are_declared_once()
     ensures vertices { model_faults texts.declared_twice
         ≡ static_fault rules.DuplicateName 31 ∷ [] }
@@ -55,7 +55,8 @@ pub fn names_are_declared_once()
         ≡ static_fault rules.DuplicateName 31 ∷ static_fault rules.KindMismatch 70 ∷ [] }
 {}
 
-/// A name is used as what it is declared as. A name that is not has no kind, and an edge to it no parameters.
+/// A name is used as what it is declared as. A name that is not has no kind, and an edge to it no
+/// parameters.
 pub fn names_are_rightly_used()
     ensures all { model_faults texts.wrong_uses
         ≡ static_fault rules.WrongUse 73 ∷ static_fault rules.WrongUse 87
@@ -91,8 +92,8 @@ pub fn kinds_match()
         ≡ Some (static_fault rules.UnknownName 70) }
 {}
 
-/// Operators that count take and give whole numbers, those that compare give truth values, and both sides of `=` and
-/// `<>` need only have one kind.
+/// Operators that count take and give whole numbers, those that compare give truth values, and both
+/// sides of `=` and `<>` need only have one kind.
 pub fn operators_have_kinds()
     ensures arithmetic_takes { map operand_kind texts.arithmetic ≡ replicate 7 (Some kinds.Range) }
     ensures arithmetic_gives { map result_kind texts.arithmetic ≡ replicate 7 kinds.Range }
@@ -104,7 +105,8 @@ pub fn operators_have_kinds()
     ensures connectives_give { map result_kind texts.connectives ≡ replicate 2 kinds.Truth }
 {}
 
-/// There are as many values as parameters, and as many right sides as targets. Kinds are compared as far as both go.
+/// There are as many values as parameters, and as many right sides as targets. Kinds are compared
+/// as far as both go.
 pub fn values_are_counted()
     ensures too_many { model_faults texts.too_many_values ≡ static_fault rules.ValueCount 31 ∷ [] }
     ensures too_few { model_faults texts.too_few_values
@@ -166,22 +168,22 @@ pub fn numbers_beyond_are_compared()
     ensures bounds { model_faults texts.far_below
         ≡ static_fault rules.LiteralTooLarge 20 ∷ static_fault rules.EmptyRange 17
         ∷ static_fault rules.InitialOutside 44 ∷ [] }
-    ensures bounds_told { first_fault texts.far_below ≡ Some (static_fault rules.EmptyRange 17) }
+    ensures first_of_bounds { first_fault texts.far_below ≡ Some (static_fault rules.EmptyRange 17) }
     ensures uniform { model_faults texts.far_uniform
         ≡ static_fault rules.LiteralTooLarge 60 ∷ static_fault rules.DrawOutside 57 ∷ [] }
-    ensures uniform_told { first_fault texts.far_uniform
+    ensures first_of_uniform { first_fault texts.far_uniform
         ≡ Some (static_fault rules.DrawOutside 57) }
     ensures size { size_faults (huge 15)
         ≡ static_fault rules.LiteralTooLarge 15 ∷ static_fault rules.SizeOutside 15 ∷ [] }
-    ensures size_told { earliest_fault None (size_faults (huge 15))
+    ensures first_of_size { earliest_fault None (size_faults (huge 15))
         ≡ Some (static_fault rules.LiteralTooLarge 15) }
 {}
 
-/// Each rule has its row, and of two faults at one place the one of the earlier row is reported, whichever is found
-/// first.
-// pairs that can meet at one place, in both orders: a number too large beside an empty range, and beside a weight; an
-// item beyond a limit that is unknown, that is declared twice, and that needs a version; a stream outside beside such a
-// delay.
+/// Each rule has its row, and of two faults at one place the one of the earlier row is reported,
+/// whichever is found first.
+// pairs that can meet at one place, in both orders: a number too large beside an empty range, and
+// beside a weight; an item beyond a limit that is unknown, that is declared twice, and that needs a
+// version; a stream outside beside such a delay.
 pub fn rules_have_rows()
     ensures rows { map rule_row
         (rules.NameTooLong ∷ rules.UnknownName ∷ rules.DuplicateName ∷ rules.WrongUse
@@ -210,7 +212,7 @@ pub fn rules_have_rows()
 {}
 
 /// Of several faults the one with the least place is reported.
-pub fn the_least_place_is_told()
+pub fn the_least_place_is_reported()
     ensures initial_before_unknown { first_fault texts.initial_before_unknown
         ≡ Some (static_fault rules.InitialOutside 24) }
     ensures empty_before_initial { first_fault texts.bounds_exchanged
@@ -236,8 +238,8 @@ pub fn counts_have_limits()
         ∷ static_fault rules.TooMany 62 ∷ [] }
 {}
 
-/// Each limit is its own: of so many items at one place the one beyond the limit is reported, and with as many as it
-/// allows none is.
+/// Each limit is its own: of so many items at one place the one beyond the limit is reported, and
+/// with as many as it allows none is.
 pub fn limits_on_counts_are_exact()
     ensures variables { faults_of_counts (texts.variables_at_nine 2001)
         ≡ static_fault rules.TooMany 9 ∷ [] }
@@ -259,7 +261,7 @@ pub fn limits_on_counts_are_exact()
 {}
 
 /// The canonical text is measured where no other rule is broken, and reported at the word `end`.
-pub fn long_models_are_told_last()
+pub fn long_models_are_reported_last()
     ensures fits { or_too_long texts.plain_text 28 (faults_of_parts texts.plain_text) ≡ [] }
     ensures too_long { or_too_long texts.plain_text 27 (faults_of_parts texts.plain_text)
         ≡ static_fault rules.ModelTooLong 24 ∷ [] }
@@ -267,7 +269,8 @@ pub fn long_models_are_told_last()
         ≡ static_fault rules.DuplicateName 31 ∷ [] }
 {}
 
-/// A text with each part of the language breaks no rule, and names the model whose canonical text it is.
+/// A text with each part of the language breaks no rule, and names the model whose canonical text
+/// it is.
 pub fn models_break_no_rule()
     ensures faults { model_faults texts.desk_written ≡ [] }
     ensures model { numbered texts.desk_written ≡ Some desk }

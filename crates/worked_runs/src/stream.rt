@@ -4,7 +4,8 @@ ghost use Rattle.std.specs.Prelude.{◌≡◌, [], ◌∷◌, map, pos, negsuc};
 ghost use Rattle.sig_base.specs.Stream.{word, uniform_pick, weighted_pick};
 ghost use Rattle.worked_runs.specs.Building.{first_six};
 
-/// Stream 54 under seed 42, as PCG32's authors print it, other streams and seeds, and draws from 1..6.
+/// Stream 54 under seed 42, as PCG32's authors print it, other streams and seeds, and draws from
+/// 1..6.
 #[tactic(auto, unfolding(rand_pcg::specs::Lcg::state_after))]
 pub fn stream_gives()
     ensures words { map (λ k. word 42 54 k) first_six
@@ -17,7 +18,8 @@ pub fn stream_gives()
         ≡ pos 4 ∷ pos 3 ∷ pos 5 ∷ pos 4 ∷ pos 5 ∷ pos 5 ∷ [] }
 {}
 
-/// The least word takes the first value and the greatest word the last, and each weight has its share of the words.
+/// The least word takes the first value and the greatest word the last, and each weight has its
+/// share of the words.
 pub fn words_are_shared()
     ensures least_word { uniform_pick (negsuc 1) (pos 3) 0 ≡ negsuc 1 }
     ensures greatest_word { uniform_pick (negsuc 1) (pos 3) 0xffffffff ≡ pos 3 }

@@ -12,7 +12,7 @@ pub fn models_have_texts()
 {}
 
 /// An operand is in parentheses exactly where it binds less tightly than what is asked for.
-pub fn operands_stand_in_parentheses()
+pub fn operands_have_parentheses()
     ensures chains_group_to_the_left { expression_text desk (less (less n (whole 1)) (whole 2))
         ≡ codes "N - 1 - 2" }
     ensures right_operand { expression_text desk (less n (less (whole 1) (whole 2)))
@@ -36,8 +36,8 @@ pub fn operands_stand_in_parentheses()
         ≡ codes "(if OPEN then N else 2) + 1" }
 {}
 
-/// Each operator has its text, and its level: between two operands that bind as tightly as the right one must, and
-/// between two that bind less tightly than the left one must.
+/// Each operator has its text, and its level: between two operands that bind as tightly as the
+/// right one must, and between two that bind less tightly than the left one must.
 pub fn operators_have_texts_and_levels()
     ensures or_of_and { beside_itself (Binary And is_open is_open) Or
         ≡ codes "OPEN and OPEN or OPEN and OPEN" }

@@ -1,4 +1,5 @@
-//! Prune, settle and drop on small models: which condition fails, what each gives, and the strategy over all three.
+//! Prune, settle and drop on small models: which condition fails, what each gives, and the strategy
+//! over all three.
 #![tactic(auto, unfolding(model_core::specs::Rules::BoundsTable::exact_bounds, model_core::specs::Rules::BoundsTable::least_of, model_core::specs::Rules::BoundsTable::greatest_of))]
 
 ghost use Rattle.std.specs.Prelude.{◌≡◌, true, false, [], ◌∷◌, Some, None, codes};
@@ -12,7 +13,8 @@ ghost use Rattle.model_core.specs.Rules.Certificate.{certificate};
 ghost use Rattle.worked_runs.specs.ThreeRules.{narrow, narrow_pruned, narrow_settled, narrow_dropped, faulting, faulting_reduced};
 ghost use Rattle.worked_runs.specs.ReachedVertices.{five, three};
 
-/// A condition that the ranges refute may be pruned, and one that can fault may not, though it never holds.
+/// A condition that the ranges refute may be pruned, and one that can fault may not, though it
+/// never holds.
 pub fn ranges_refute_conditions()
     ensures refuted { first_failed (prune_conditions narrow 0 0) ≡ None }
     ensures not_quiet { first_failed (prune_conditions faulting 0 0) ≡ Some 2 }
@@ -20,8 +22,8 @@ pub fn ranges_refute_conditions()
     ensures none { first_prune faulting ≡ None }
 {}
 
-/// Condition 1 of settle is that the edge exists, condition 2 that its condition isn't the literal `true`, and condition
-/// 3 that it is proved.
+/// Condition 1 of settle is that the edge exists, condition 2 that its condition isn't the literal
+/// `true`, and condition 3 that it is proved.
 pub fn settle_has_conditions()
     ensures holds { first_failed (settle_conditions narrow 0 1) ≡ None }
     ensures no_edge { first_failed (settle_conditions narrow 0 2) ≡ Some 1 }
@@ -40,8 +42,8 @@ pub fn vertices_are_reached()
     ensures all { unreached three ≡ [] }
 {}
 
-/// Condition 1 of drop is that the list isn't empty, and condition 2 that it lists exactly the vertices that can't be
-/// reached, in order. Those that stay are numbered anew.
+/// Condition 1 of drop is that the list isn't empty, and condition 2 that it lists exactly the
+/// vertices that can't be reached, in order. Those that stay are numbered anew.
 pub fn drop_has_conditions()
     ensures holds { first_failed (drop_conditions five (1 ∷ 2 ∷ [])) ≡ None }
     ensures empty { first_failed (drop_conditions five []) ≡ Some 1 }

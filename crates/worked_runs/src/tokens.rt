@@ -1,4 +1,5 @@
-//! Tokens: the longest one each time, what may be between them, and the first byte that begins none.
+//! Tokens: the longest one each time, what may be between them, and the first byte that begins
+//! none.
 
 ghost use Rattle.std.specs.Prelude.{◌≡◌, pos, Some, None, Ok, Err, [], ◌∷◌, length, map, codes};
 ghost use Rattle.model_core.specs.declared.token.Word.TheVariants as words;
@@ -67,5 +68,5 @@ pub fn bad_bytes_have_places()
     ensures first_of_two { tokens_of (codes "or ! @") ≡ Err 3 }
     ensures at_the_end { tokens_of (codes "model ; $") ≡ Err 8 }
     ensures point_in_a_bound { tokens_of (codes "model M; var X : 0.5 = 0;") ≡ Err 18 }
-    ensures behind_a_comment { tokens_of (35 ∷ 255 ∷ 10 ∷ 255 ∷ []) ≡ Err 3 }
+    ensures after_a_comment { tokens_of (35 ∷ 255 ∷ 10 ∷ 255 ∷ []) ≡ Err 3 }
 {}

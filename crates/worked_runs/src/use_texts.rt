@@ -5,8 +5,9 @@ ghost use Rattle.use_analysis.specs.UsesText.{uses_text};
 ghost use Rattle.worked_runs.specs.Models.{bank, loop};
 ghost use Rattle.worked_runs.specs.Texts.{desk};
 
-/// A line names the readers of a variable, its writers, as a parameter or by a change, and whether it is watched. A
-/// vertex that only writes cells of an array doesn't read it, and a dash means no vertex.
+/// A line names the readers of a variable, its writers, as a parameter or by a change, and whether
+/// it is watched. A vertex that only writes cells of an array doesn't read it, and a dash means no
+/// vertex.
 pub fn uses_have_texts()
     ensures of_the_bank { uses_text bank
         ≡ codes "QUEUE readers ENTER,START,LEAVE writers ENTER,START watched yes\n"

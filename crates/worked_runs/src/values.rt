@@ -6,7 +6,8 @@ ghost use Rattle.model_core.specs.EventGraph.{Truth, Clock, Cell, Negative, Not,
 ghost use Rattle.worked_runs.specs.Building.{whole, minus, one_over_zero, is_one_over_zero};
 ghost use Rattle.worked_runs.specs.Models.{of};
 
-/// Results outside the numbers of 64 bits are faults; quotients by 0 and indexes outside are faults too.
+/// Results outside the numbers of 64 bits are faults; quotients by 0 and indexes outside are faults
+/// too.
 pub fn values_are_exact()
     ensures product_outside { of (Binary Multiply (whole 4611686018427387904) (whole 2))
         ≡ Err faults.Overflow }
@@ -37,6 +38,8 @@ pub fn values_are_exact()
     ensures index_outside { of (Cell 1 (whole 2)) ≡ Err faults.IndexOutside }
     ensures index_below { of (Cell 1 (minus 1)) ≡ Err faults.IndexOutside }
     ensures last_cell { of (Cell 1 (whole 1)) ≡ Ok (pos 0) }
+    ensures first_cell { of (Cell 1 (whole 0)) ≡ Ok (pos 0) }
+    ensures index_far_outside { of (Cell 1 (whole 9223372036854775807)) ≡ Err faults.IndexOutside }
 {}
 
 /// Truth values are 1 and 0.
@@ -55,6 +58,7 @@ pub fn operators_compare()
     ensures at_most { of (Binary AtMost (whole 2) (whole 2)) ≡ Ok (pos 1) }
     ensures above { of (Binary Above (whole 2) (whole 2)) ≡ Ok (pos 0) }
     ensures above_it { of (Binary Above (minus 2) (minus 3)) ≡ Ok (pos 1) }
+    ensures at_least_1 { of (Binary AtLeast (whole 1) (whole 1)) ≡ Ok (pos 1) }
     ensures at_least { of (Binary AtLeast (whole 2) (whole 2)) ≡ Ok (pos 1) }
     ensures least { of (Binary Least (minus 2) (whole 1)) ≡ Ok (negsuc 1) }
     ensures greatest { of (Binary Greatest (minus 2) (whole 1)) ≡ Ok (pos 1) }
@@ -71,6 +75,10 @@ pub fn values_are_lazy()
     ensures or_false { of (Binary Or (Truth false) is_one_over_zero) ≡ Err faults.DivisionByZero }
     ensures and_false { of (Binary And (Truth false) is_one_over_zero) ≡ Ok (pos 0) }
     ensures and_true { of (Binary And (Truth true) (Truth false)) ≡ Ok (pos 0) }
+    ensures if_false_to_a_fault { of (If (Truth false) (whole 1) one_over_zero)
+        ≡ Err faults.DivisionByZero }
+    ensures and_of_numbers { of (Binary And (whole 0) (whole 7)) ≡ Ok (pos 0) }
+    ensures or_of_numbers { of (Binary Or (whole 1) (whole 7)) ≡ Ok (pos 1) }
     ensures left_first { of (Binary Add (Cell 1 (whole 2)) one_over_zero)
         ≡ Err faults.IndexOutside }
 {}

@@ -8,7 +8,7 @@ ghost use Rattle.model_core.specs.Static.VersionFaults.{is_version_two, number_f
 ghost use Rattle.model_core.specs.Static.ModelFaults.{first_fault};
 ghost use Rattle.worked_runs.specs.Building.{whole, schedule, urgent};
 ghost use Rattle.worked_runs.specs.DrawnModels.{after_draw, one_to_six};
-ghost use Rattle.worked_runs.specs.LargeTexts.{of_targets, of_parameters, everything, parts_behind};
+ghost use Rattle.worked_runs.specs.LargeTexts.{of_targets, of_parameters, everything, with_later_parts};
 ghost use Rattle.worked_runs.specs.VersionTexts.{array_at, saying, second, of_sizes};
 ghost use Rattle.worked_runs.specs.WrittenModels.{n_variable};
 ghost use Rattle.worked_runs.specs.WrittenParts.{figure, huge, sized, static_fault};
@@ -29,12 +29,13 @@ pub fn versions_are_known()
         ≡ Some (static_fault rules.LiteralTooLarge 8) }
 {}
 
-/// Only a text of version 2 has the greater limits; one of an unknown version has those of version 1.
+/// Only a text of version 2 has the greater limits; one of an unknown version has those of version
+/// 1.
 pub fn versions_have_their_limits()
     ensures first { first_fault (saying None (array_at 9 4096 ∷ [])) ≡ None }
     ensures beyond_the_first { first_fault (saying None (array_at 9 4097 ∷ []))
         ≡ Some (static_fault rules.SizeOutside 15) }
-    ensures said_to_be_the_first { first_fault (saying (Some (figure 1 8)) (array_at 20 4097 ∷ []))
+    ensures declared_to_be_the_first { first_fault (saying (Some (figure 1 8)) (array_at 20 4097 ∷ []))
         ≡ Some (static_fault rules.SizeOutside 26) }
     ensures second { first_fault (saying second (array_at 20 65536 ∷ [])) ≡ None }
     ensures beyond_the_second { first_fault (saying second (array_at 20 65537 ∷ []))
@@ -43,8 +44,8 @@ pub fn versions_have_their_limits()
         ≡ static_fault rules.VersionUnknown 8 ∷ static_fault rules.SizeOutside 26 ∷ [] }
 {}
 
-/// Version 1 has 8 targets, 8 parameters and no drawn delay, in each variable, vertex, change and edge. A text of
-/// version 2 has none of these limits here.
+/// Version 1 has 8 targets, 8 parameters and no drawn delay, in each variable, vertex, change and
+/// edge. A text of version 2 has none of these limits here.
 pub fn version_1_has_limits_everywhere()
     ensures most_targets { version_faults (of_targets None 8) ≡ [] }
     ensures one_target_more { version_faults (of_targets None 9)
@@ -62,8 +63,8 @@ pub fn version_1_has_limits_everywhere()
     ensures nowhere_in_the_second { version_faults (everything second) ≡ [] }
 {}
 
-/// The cells of all arrays together have a limit of their own: the first array that passes it is reported, and one over
-/// its own limit doesn't count.
+/// The cells of all arrays together have a limit of their own: the first array that passes it is
+/// reported, and one over its own limit doesn't count.
 pub fn cells_together_have_a_limit()
     ensures as_many { cells_faults 0 (replicate 256 (array_at 20 65536)) ≡ [] }
     ensures one_more { cells_faults 0
@@ -86,13 +87,13 @@ pub fn texts_say_a_version_where_they_need_it()
     ensures cells { needs_version_two (of_sizes 4097 0 0) ≡ true }
     ensures parameters { needs_version_two (of_sizes 0 9 0) ≡ true }
     ensures targets { needs_version_two (of_sizes 0 0 9) ≡ true }
-    ensures later_array { needs_version_two (parts_behind 4097 0 0 []) ≡ true }
-    ensures later_parameters { needs_version_two (parts_behind 4096 9 8 []) ≡ true }
-    ensures later_targets { needs_version_two (parts_behind 4096 8 9 []) ≡ true }
+    ensures later_array { needs_version_two (with_later_parts 4097 0 0 []) ≡ true }
+    ensures later_parameters { needs_version_two (with_later_parts 4096 9 8 []) ≡ true }
+    ensures later_targets { needs_version_two (with_later_parts 4096 8 9 []) ≡ true }
     ensures later_delay { needs_version_two
-        (parts_behind 4096 8 8 (schedule 0 (whole 1) ∷ after_draw 0 one_to_six ∷ [])) ≡ true }
+        (with_later_parts 4096 8 8 (schedule 0 (whole 1) ∷ after_draw 0 one_to_six ∷ [])) ≡ true }
     ensures nothing_later { needs_version_two
-        (parts_behind 4096 8 8 (schedule 0 (whole 1) ∷ urgent 0 ∷ [])) ≡ false }
+        (with_later_parts 4096 8 8 (schedule 0 (whole 1) ∷ urgent 0 ∷ [])) ≡ false }
     ensures without { canonical (of_sizes 4 0 1)
         ≡ codes "model W;\nvar A[4] : 0..9 = 0;\nvertex RUN {\n  set A := 1;\n}\nend\n" }
     ensures line { canonical (of_sizes 5000 0 1)

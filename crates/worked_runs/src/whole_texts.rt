@@ -7,7 +7,7 @@ ghost use Rattle.worked_runs.specs.WrittenParts.{static_fault};
 ghost use Rattle.worked_runs.specs.WholeTexts.{fault_in, printed_as, expressions_text};
 
 /// The fault of a text is at the byte of its text.
-pub fn texts_have_their_faults_told()
+pub fn texts_have_first_faults()
     ensures kind { fault_in (codes "model M; var B : bool = 2; vertex RUN { } end")
         ≡ Some (static_fault rules.KindMismatch 24) }
     ensures range { fault_in (codes "model M; var B : 3..2 = 3; vertex RUN { } end")

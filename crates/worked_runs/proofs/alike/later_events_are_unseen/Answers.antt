@@ -1,13 +1,14 @@
 -- Both machines stop after the first event, at each stop time up to the last.
 use Rattle.std.proofs.Common.{◌≡◌, ℕ, ◌^◌, ◌≤◌, ◌<◌, ℤ, None, IsTrue, List, [], ◌∷◌, replicate, refl, ◌∙◌, ap, arith, zero-add}
 use Rattle.std.proofs.lemmas.Bool.{lt-ltb}
+use Rattle.sig_base.proofs.Tests.{nat_lt-zero}
 use Rattle.model_core.specs.Run.Pending.{Entry}
 use Rattle.model_core.specs.Run.Machine.{At, Stopped, Rests, Goes}
 use Rattle.model_core.specs.Run.History.{Moment, next_move, allowed, look}
 use Rattle.model_core.specs.Run.Same.{SameLooks}
 use Rattle.run_laws.proofs.Simulation.{Answers, rests, goes, lock_step_same}
 use Rattle.worked_runs.specs.Pairs.{due_after}
-use Rattle.worked_runs.proofs.Looks.{answered_by, none_below_0}
+use Rattle.worked_runs.proofs.Looks.{answered_by}
 use Rattle.worked_runs.proofs.alike.later_events_are_unseen.Goals as goal
 
 -- at clock 0, with one event that is pending
@@ -27,7 +28,7 @@ data Waiting (one_time other_time : ℕ) : Moment → Moment → Type 0 where
   both_wait : {s t : Moment} → s ≡ waiting one_time → t ≡ waiting other_time → Waiting one_time other_time s t
 
 scheduled_then : (time seed until : ℕ) → next_move (due_after time) seed until beginning ≡ Goes [] (waiting time)
-scheduled_then time seed until = rw (none_below_0 until) (ap (λ (t : ℕ). Goes [] (waiting t)) (zero-add time))
+scheduled_then time seed until = rw (nat_lt-zero until) (ap (λ (t : ℕ). Goes [] (waiting t)) (zero-add time))
 
 never_due : (time seed until : ℕ) → until < time → next_move (due_after time) seed until (waiting time) ≡ Rests (At 0 [] ∷ []) Stopped
 never_due time seed until later = rw (lt-ltb until time later) refl

@@ -1,12 +1,13 @@
 -- Two moves of the one machine are answered by one move of the other. The other way round, the looks come too late.
 use Rattle.std.proofs.Common.{◌≡◌, ℕ, zero, suc, ◌≤◌, ℤ, None, IsTrue, List, [], ◌∷◌, replicate, refl, ◌∙◌, ap, lit<, lit≤, arith}
+use Rattle.sig_base.proofs.Tests.{nat_lt-zero}
 use Rattle.model_core.specs.Run.Pending.{Entry}
 use Rattle.model_core.specs.Run.Machine.{At, On, Ended, Going, Look, Goes}
 use Rattle.model_core.specs.Run.History.{Moment, next_move, allowed, look}
 use Rattle.model_core.specs.Run.Same.{SameLooks}
 use Rattle.run_laws.proofs.Simulation.{rests, goes, Joined, one, two_go, two_for_one}
 use Rattle.worked_runs.specs.Pairs.{ends, comes_twice, two_events, one_event, a_first, a_second}
-use Rattle.worked_runs.proofs.Looks.{joined_by, none_below_0, nothing_begins}
+use Rattle.worked_runs.proofs.Looks.{joined_by, nothing_begins}
 use Rattle.worked_runs.proofs.alike.steps_may_be_fewer.Goals as goal
 
 -- at clock 0, before any note
@@ -28,13 +29,13 @@ data UpToTheEnd : Moment → Moment → Type 0 where
   over : {s t : Moment} → s ≡ at_0 [] → t ≡ at_0 [] → UpToTheEnd s t
 
 two_begin : (seed until : ℕ) → next_move two_events seed until first ≡ Goes [] (next 1)
-two_begin seed until = rw (none_below_0 until) refl
+two_begin seed until = rw (nat_lt-zero until) refl
 
 two_go_on : (seed until : ℕ) → next_move two_events seed until (next 1) ≡ Goes [] (at_0 [])
-two_go_on seed until = rw (none_below_0 until) refl
+two_go_on seed until = rw (nat_lt-zero until) refl
 
 one_begins : (seed until : ℕ) → next_move one_event seed until first ≡ Goes [] (at_0 [])
-one_begins seed until = rw (none_below_0 until) refl
+one_begins seed until = rw (nat_lt-zero until) refl
 
 joined_to_the_end : (seed until : ℕ) (s t : Moment) → UpToTheEnd s t → Joined (next_move two_events seed until) UpToTheEnd (next_move two_events seed until s) (next_move one_event seed until t)
 joined_to_the_end seed until s t (begun a b) =
@@ -73,8 +74,8 @@ twice_takes_longer (suc zero) le = refl
 twice_takes_longer (suc (suc zero)) le = refl
 twice_takes_longer (suc (suc (suc m))) le = absurd (omega arith)
 
-pub returns-clause-not_more_behind_the_last_note : goal.returns-clause-not_more_behind_the_last_note
-returns-clause-not_more_behind_the_last_note c = λ same.
+pub returns-clause-no_more_after_the_last_note : goal.returns-clause-no_more_after_the_last_note
+returns-clause-no_more_after_the_last_note c = λ same.
     let (m, le, e) = (same.runs 42 (lit< tt) [] refl 100 (lit≤ tt)).finishes 2 refl in
     going_or_ended 5 (look comes_twice 42 [] 100 m) (look ends 42 [] 100 2) e (twice_takes_longer m le) refl
 
@@ -87,26 +88,26 @@ data Turning : Moment → Moment → Type 0 where
   b_comes : {s t : Moment} → s ≡ next 2 → t ≡ next 2 → Turning s t
 
 c_follows : (seed until : ℕ) → next_move a_second seed until first ≡ Goes [] (next 3)
-c_follows seed until = rw (none_below_0 until) refl
+c_follows seed until = rw (nat_lt-zero until) refl
 
 a_follows_c : (seed until : ℕ) → next_move a_second seed until (next 3) ≡ Goes [] (next 1)
-a_follows_c seed until = rw (none_below_0 until) refl
+a_follows_c seed until = rw (nat_lt-zero until) refl
 
 a_follows : (seed until : ℕ) → next_move a_first seed until first ≡ Goes [] (next 1)
-a_follows seed until = rw (none_below_0 until) refl
+a_follows seed until = rw (nat_lt-zero until) refl
 
 -- from A on, the models make the same moves
 a_turns : (seed until : ℕ) → next_move a_first seed until (next 1) ≡ Goes (On 0 0 [] ∷ []) (next 2)
-a_turns seed until = rw (none_below_0 until) refl
+a_turns seed until = rw (nat_lt-zero until) refl
 
 b_turns : (seed until : ℕ) → next_move a_first seed until (next 2) ≡ Goes (On 0 1 [] ∷ []) (next 1)
-b_turns seed until = rw (none_below_0 until) refl
+b_turns seed until = rw (nat_lt-zero until) refl
 
 a_turns_too : (seed until : ℕ) → next_move a_second seed until (next 1) ≡ Goes (On 0 0 [] ∷ []) (next 2)
-a_turns_too seed until = rw (none_below_0 until) refl
+a_turns_too seed until = rw (nat_lt-zero until) refl
 
 b_turns_too : (seed until : ℕ) → next_move a_second seed until (next 2) ≡ Goes (On 0 1 [] ∷ []) (next 1)
-b_turns_too seed until = rw (none_below_0 until) refl
+b_turns_too seed until = rw (nat_lt-zero until) refl
 
 joined_for_ever : (seed until : ℕ) (s t : Moment) → Turning s t → Joined (next_move a_second seed until) Turning (next_move a_second seed until s) (next_move a_first seed until t)
 joined_for_ever seed until s t (begun_to_turn a b) =

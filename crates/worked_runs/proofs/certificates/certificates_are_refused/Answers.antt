@@ -12,7 +12,7 @@ unfolding level_format read_within rule_at many_within many_at level_lookahead s
 returns c = record {
   empty = no_certificate refl;
   no_end = no_certificate refl;
-  behind_end = no_certificate refl;
+  after_end = no_certificate refl;
   no_name = no_certificate refl;
   no_number = no_certificate refl;
   three_names = no_certificate refl;

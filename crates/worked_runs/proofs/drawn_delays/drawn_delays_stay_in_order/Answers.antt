@@ -4,6 +4,6 @@ use Rattle.std.specs.Fmt.{digits}
 use Rattle.model_core.specs.Rules.BoundsTable.{exact_bounds}
 use Rattle.worked_runs.proofs.drawn_delays.drawn_delays_stay_in_order.Goals as goal
 
-pub returns-clause-behind : goal.returns-clause-behind
+pub returns-clause-after : goal.returns-clause-after
 unfolding digits exact_bounds
-returns-clause-behind c = refl
+returns-clause-after c = refl

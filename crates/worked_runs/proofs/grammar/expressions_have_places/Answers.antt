@@ -10,7 +10,7 @@ unfolding level_format read_within rule_at many_within many_at level_lookahead
 returns c = record {
   parentheses = is_spelled refl;
   group = is_spelled refl;
-  group_behind = is_spelled refl;
+  group_after = is_spelled refl;
   call = is_spelled refl;
   truths = is_spelled refl;
 }

@@ -17,8 +17,8 @@ returns c = record {
   no_end = refused refl;
   end_too_soon = refused refl;
   second_end = refused refl;
-  variable_behind_watch = refused refl;
+  variable_after_watch = refused refl;
   no_row = refused refl;
   no_parameter = refused refl;
-  change_behind_edge = refused refl;
+  change_after_edge = refused refl;
 }

@@ -7,7 +7,7 @@ use Rattle.model_core.specs.Run.History.{Moment, allowed, next_move, look}
 use Rattle.worked_runs.specs.Building.{showing}
 use Rattle.worked_runs.specs.Pairs.{Apart, ends, stops, goes_on, divides, leaves, ends_at_4, divides_at_4}
 use Rattle.worked_runs.proofs.Looks.{apart_by_ends, apart_by_going_on, circles}
-use Rattle.worked_runs.proofs.apart.ends_tell_apart.Goals as goal
+use Rattle.worked_runs.proofs.apart.models_differ_by_ends.Goals as goal
 
 -- the look, where the clock left 0
 abbrev from_five : RunStatus → Look

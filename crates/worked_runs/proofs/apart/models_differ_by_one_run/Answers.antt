@@ -7,7 +7,7 @@ use Rattle.model_core.specs.Run.History.{allowed, look}
 use Rattle.worked_runs.specs.Building.{showing}
 use Rattle.worked_runs.specs.Pairs.{Apart, due_after, taking_x, equals_x, drawing, equals_x_and_y}
 use Rattle.worked_runs.proofs.Looks.{other_notes, apart_by_ends}
-use Rattle.worked_runs.proofs.apart.one_run_tells_apart.Goals as goal
+use Rattle.worked_runs.proofs.apart.models_differ_by_one_run.Goals as goal
 
 a_shows : (On 0 0 [] ∷ At 0 [] ∷ []) ≡ (At 0 [] ∷ []) → ⊥
 a_shows e = cc

@@ -8,7 +8,7 @@ use Rattle.worked_runs.specs.Building.{scalars, showing, whole, set, schedule}
 use Rattle.worked_runs.specs.Models.{changing, ordering}
 use Rattle.worked_runs.specs.Pairs.{Apart, a_first, b_first, silent}
 use Rattle.worked_runs.proofs.Looks.{circles, other_notes, apart_by_ends, apart_by_notes, nothing_begins}
-use Rattle.worked_runs.proofs.apart.notes_tell_apart.Goals as goal
+use Rattle.worked_runs.proofs.apart.models_differ_by_notes.Goals as goal
 
 -- in five steps both are finished
 notes_apart : (g h : EventGraph) (a b : Look) → look g 42 [] 100 5 ≡ a → look h 42 [] 100 5 ≡ b → IsTrue (finished a.standing) → IsTrue (finished b.standing) → (a.history ≡ b.history → ⊥) → IsTrue (allowed g []) → IsTrue (allowed h []) → Apart g h

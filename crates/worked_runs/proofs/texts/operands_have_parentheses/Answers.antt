@@ -1,6 +1,6 @@
 use Rattle.std.proofs.Common.{refl}
 use Rattle.std.specs.Fmt.{digits}
-use Rattle.worked_runs.proofs.texts.operands_stand_in_parentheses.Goals as goal
+use Rattle.worked_runs.proofs.texts.operands_have_parentheses.Goals as goal
 
 pub returns : goal.returns
 unfolding digits
