@@ -1,5 +1,5 @@
-//! Runs over the plain list and over heaps, which write the same bytes: models whose histories are known, and many
-//! small ones.
+//! Runs over the plain list and over heaps, which write the same bytes: models whose histories are
+//! known, and many small ones.
 
 ghost use Rattle.std.specs.Prelude.{◌≡◌, ◌<◌, [], length};
 ghost use Rattle.model_core.specs.Code.Views.{graph_of};
@@ -18,8 +18,8 @@ use std::sync::ledger::{Blank, Ledger};
 use std::test::*;
 use watch_trace::{Outcome, Tracer, follow};
 
-/// Writes the history of a run with the seed 42 over an empty list with room for one event, and answers what it comes
-/// to.
+/// Writes the history of a run with the seed 42 over an empty list with room for one event, and
+/// answers what it comes to.
 fn history_over<P: Pending + Drop, L: Ledger>(
     alloc: Global,
     model: &Model,
@@ -109,7 +109,8 @@ fn both_histories(
     outcomes
 }
 
-/// A text, the starting values of its model, a stop time, a budget of events, and what is written of a run with the seed
+/// A text, the starting values of its model, a stop time, a budget of events, and what is written
+/// of a run with the seed
 /// 42.
 struct Known {
     text: &'static [u8],

@@ -1,4 +1,5 @@
-//! Histories of runs of small models, as they are written to a sink, and what a sink that fails has taken.
+//! Histories of runs of small models, as they are written to a sink, and what a sink that fails has
+//! taken.
 
 ghost use Rattle.std.specs.Prelude.{◌≡◌, ◌<◌, ◌≤◌, ◌^◌, None, IfOk};
 ghost use Rattle.model_core.specs.Code.Views.{graph_of};
@@ -27,8 +28,8 @@ fn begun<'m>(alloc: Global, model: &'m Model) -> Result<Run<'m, PlainPending>, R
     Ok(Run::begin(alloc, model, pending, 42, &List::new(alloc), 2)?)
 }
 
-/// The outcome of following a run from its beginning, and then, where it has spent its budget, for a hundred events
-/// more; and how many steps were made.
+/// The outcome of following a run from its beginning, and then, where it has spent its budget, for
+/// a hundred events more; and how many steps were made.
 fn followed<K: Sink, L: Ledger>(
     alloc: Global,
     model: &Model,
@@ -58,7 +59,8 @@ fn followed<K: Sink, L: Ledger>(
     Ok((first, last, turns))
 }
 
-/// The outcome of following a run of a model for so many events, and then on, with the steps made and the sink after it.
+/// The outcome of following a run of a model for so many events, and then on, with the steps made
+/// and the sink after it.
 fn history(
     alloc: Global,
     text: &[u8],
@@ -94,12 +96,13 @@ fn calls(alloc: Global, text: &[u8], until: u16) -> Result<u64, Refused> {
 
 #[test]
 fn each_line_is_one_call(rt: HostRuntime) -> Result<(), Fail> {
-    assert_eq!(rt; calls(rt.alloc(), CLOCK, 12)?, 4);
-    assert_eq!(rt; calls(rt.alloc(), CUT, 100)?, 6);
+    assert!(rt; calls(rt.alloc(), CLOCK, 12)? == 4);
+    assert!(rt; calls(rt.alloc(), CUT, 100)? == 6);
     Ok(())
 }
 
-/// Whether the history of the clock up to 12, a hundred events at most after so many, comes to this, and is written so.
+/// Whether the history of the clock up to 12, a hundred events at most after so many, comes to
+/// this, and is written so.
 fn is_followed_on(
     alloc: Global,
     events: u64,
@@ -123,8 +126,8 @@ fn a_run_is_followed_on_from_its_budget(rt: HostRuntime) -> Result<(), Fail> {
     Ok(())
 }
 
-/// Whether a run of the clock up to 12, of whose history this call fails, ends there, with so many steps made and these
-/// bytes taken.
+/// Whether a run of the clock up to 12, of whose history this call fails, ends there, with so many
+/// steps made and these bytes taken.
 fn ends_at_call(alloc: Global, failing: u64, turns: u64, written: &[u8]) -> Result<bool, Refused> {
     let sink = MemorySink::begin(alloc, 1000, 1, List::of_one(alloc, failing)?)?;
     let (outcomes, sink) = history(alloc, CLOCK, 12, 1000, sink)?;
@@ -134,9 +137,9 @@ fn ends_at_call(alloc: Global, failing: u64, turns: u64, written: &[u8]) -> Resu
     Ok(as_wanted)
 }
 
-/// The history of the clock up to 12 takes 39 calls of one byte each. Where a call fails, what the calls before it
-/// took is kept, and no call is made after it, nor any step but the one of its move: the note of time 0, the first nine
-/// bytes, is written in the move of the second step.
+/// The history of the clock up to 12 takes 39 calls of one byte each. Where a call fails, what the
+/// calls before it took is kept, and no call is made after it, nor any step but the one of its
+/// move: the note of time 0, the first nine bytes, is written in the move of the second step.
 #[test]
 fn no_call_is_made_after_one_that_failed(rt: HostRuntime) -> Result<(), Fail> {
     let alloc = rt.alloc();

@@ -6,16 +6,8 @@ mod agenda;
 #[cfg(test)]
 mod both_lists;
 #[cfg(test)]
-mod draws;
-#[cfg(test)]
 mod histories;
 #[cfg(test)]
 mod parts;
 #[cfg(test)]
-mod runs;
-#[cfg(test)]
-mod saving;
-#[cfg(test)]
 mod small_models;
-#[cfg(test)]
-mod values;

@@ -1,5 +1,5 @@
-//! Runs that are taken apart between their steps and put together again, over both lists: they go on as runs that
-//! aren't, and an event can be scheduled in between.
+//! Runs that are taken apart between their steps and put together again, over both lists: they go
+//! on as runs that aren't, and an event can be scheduled in between.
 
 ghost use Rattle.std.specs.Prelude.{◌≡◌, ◌++◌, ◌∷◌, ◌<◌, ◌≤◌, ◌^◌, [], length, None, IfOk};
 ghost use Rattle.model_core.specs.Code.Views.{graph_of};
@@ -43,8 +43,8 @@ fn put_together_if<'m, P: Pending>(apart: bool, model: &'m Model, run: Run<'m, P
     if apart { put_together(model, run) } else { run }
 }
 
-/// A run after six steps: the answer of each, the clock's time, how many steps were made, and how many
-/// events are pending and were ever scheduled.
+/// A run after six steps: the answer of each, the clock's time, how many steps were made, and how
+/// many events are pending and were ever scheduled.
 #[derive(Clone, Copy, Debug, PartialEq, Eq)]
 struct Stand {
     turns: [Turn; 6],
@@ -54,7 +54,8 @@ struct Stand {
     numbered: u64,
 }
 
-/// A run after six steps from its beginning, before each of which it is taken apart where that is asked for.
+/// A run after six steps from its beginning, before each of which it is taken apart where that is
+/// asked for.
 fn stand_of<'m, P: Pending + Drop, L: Ledger>(
     model: &'m Model,
     run: Run<'m, P>,
@@ -108,7 +109,8 @@ fn stand_over<P: Pending + Drop, L: Ledger>(
     Ok(stand_of::<P, L>(model, run, apart, 16, blank)?)
 }
 
-/// The runs that are left whole and those that are taken apart, each over the plain list and over heaps.
+/// The runs that are left whole and those that are taken apart, each over the plain list and over
+/// heaps.
 fn stands(alloc: Global, model: &Model) -> Result<[Stand; 4], Refused>
     requires { PossibleModel (graph_of model.now) }
 {
@@ -224,8 +226,8 @@ fn with_one_more<'m, P: Pending + Drop, L: Ledger>(
     Ok(Run::from_parts(model, pending, state, streams, clock, turns))
 }
 
-/// The answers of four steps of a run from its beginning, where after the first one an event of the first vertex at 7
-/// is scheduled besides.
+/// The answers of four steps of a run from its beginning, where after the first one an event of the
+/// first vertex at 7 is scheduled besides.
 fn turns_with_one_more<P: Pending + Drop, L: Ledger>(
     alloc: Global,
     model: &Model,
