@@ -10,7 +10,7 @@ ghost use Rattle.model_core.specs.Rules.Reduction.{RuleApplication};
 ghost use Rattle.model_core.specs.Text.Canonical.{canonical};
 ghost use Rattle.answer_laws.specs.PrintedAndReduced.{HasText, ShowTheSame};
 
-use round_trip::{canonical_texts_stand_in_front, validity_is_by_parts};
+use round_trip::{canonical_texts_read_in_front, validity_is_by_parts};
 use sig_base::{Sink, Source};
 use sigma_top::program;
 use std::alloc::Global;
@@ -56,5 +56,5 @@ pub fn canonical_texts_determine_models()
     texts_read_as_one_model();
     texts_have_one_reading();
     validity_is_by_parts();
-    canonical_texts_stand_in_front();
+    canonical_texts_read_in_front();
 }

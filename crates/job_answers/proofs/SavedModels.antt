@@ -9,7 +9,7 @@ use Rattle.model_core.proofs.EachOne.{every-front}
 use Rattle.text_laws.proofs.Formats.EndWord.{front-is_text}
 use Rattle.static_laws.proofs.StaticTwins.ModelTwin.{accepted_by_itself}
 use Rattle.round_trip.proofs.TokensOfTexts.{GoodTokens, tokens_good}
-use Rattle.round_trip.proofs.ModelTold.{derived-spellable}
+use Rattle.round_trip.proofs.SpelledModels.{derived-spellable}
 use Rattle.round_trip.proofs.ByParts.{by_parts}
 use Rattle.job_answers.specs.SavedReading.{ReadsSaved}
 use Rattle.job_answers.proofs.ModelTerms.{EventGraph, EventVertex, Variable, WrittenModel, Accepted, IsValid, SavedRun}

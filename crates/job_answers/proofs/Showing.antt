@@ -8,7 +8,7 @@ use Rattle.model_core.specs.declared.token.Symbol.{Symbol}
 use Rattle.model_core.specs.Text.Grammar.{many}
 use Rattle.model_core.specs.Text.Format.{TokenSort, AName, ASpelled, ANumber, AWord, ASymbol, sort_of, sort_as, Yields, Single, Apply, Either, Many, Spells, name_bytes, number_value, any_name, any_number, this_name, mark, reserved, number_exact, ◌<*◌, ◌*>◌, maybe}
 use Rattle.model_core.specs.Text.Expressions.{LanguageFormat, level_format}
-use Rattle.round_trip.proofs.Telling.{reserved_kind, mark_kind}
+use Rattle.round_trip.proofs.SpelledFacts.{reserved_kind, mark_kind}
 use Rattle.job_answers.specs.PlainKinds.{before_kinds, plain_kinds}
 use Rattle.job_answers.proofs.ModelTerms.{Lexeme, LexemeKind, NameOf, Reserved, NumberOf, Mark, Front, Between, Longest, Neither, front, front_length, after_front, tokens_from, is_blank, is_word_byte, word_among, reserved_words, symbol_among, all_symbols, same_bytes, WrittenName, WrittenNumber}
 

@@ -15,7 +15,7 @@ use Rattle.model_core.specs.Static.OwnRules.{FitsKind, KeepsVariable, KeepsStati
 use Rattle.model_core.specs.Static.ModelFaults.{Accepted}
 use Rattle.model_core.specs.Static.Reading.{Reads, IsValid}
 use Rattle.static_laws.proofs.StaticTwins.ModelTwin.{accepted_by_itself}
-use Rattle.round_trip.proofs.ModelTold.{spelled-spellable}
+use Rattle.round_trip.proofs.SpelledModels.{spelled-spellable}
 use Rattle.round_trip.proofs.TokenSteps.{Lexes-at, Lexes_tokens_from}
 use Rattle.round_trip.proofs.CanonicalSpells.{canonical-spells, canonical-before}
 

@@ -49,7 +49,7 @@ each_by_kind [] (w ∷ ws) h = absurd h
 each_by_kind (v ∷ vs) (w ∷ ws) h = (h.0.1, each_by_kind vs ws h.1)
 
 module _ (g : EventGraph) (h : IsSpellable g) (back : ReadsBack g) where
-  named : Named g (names_of g)
+  abbrev named : Named g (names_of g)
   named = named-by g h back
 
   IsModel : WrittenModel → Type 0

@@ -24,17 +24,17 @@ among-some x (with_it y some) (inr h) = inr (among-some x some h)
 among-some x (without y some) h = inr (among-some x some h)
 
 -- some of a graph's vertices stay, and f gives the new place of each that edges or the watch list name. Named holds of those,
--- and Told of those that are watched
-pub record Stay (g : EventGraph) (kept : List EventVertex) (f : ℕ → ℕ) (Named Told : ℕ → Type 0) : Type 0 where
+-- and Listed of those that are watched
+pub record Stay (g : EventGraph) (kept : List EventVertex) (f : ℕ → ℕ) (Named Listed : ℕ → Type 0) : Type 0 where
   pub some : SomeOf kept g.vertices
   pub has_one : IsNonEmpty kept
   pub edges : (v : EventVertex) → Among v kept → (e : EventEdge) → Among e v.edges → Named e.target
-  pub watched : (v : ℕ) → Among (WatchedVertex v) g.watch → Named v × Told v
+  pub watched : (v : ℕ) → Among (WatchedVertex v) g.watch → Named v × Listed v
   pub within : (v : ℕ) → Named v → v < length g.vertices → f v < length kept
   pub takes : (v : ℕ) (ps : List ℕ) → Named v → slice_get (parameters_of g) v ≡ Some ps → slice_get (map (λ (v : EventVertex). v.parameters) kept) (f v) ≡ Some ps
-  pub apart : (v w : ℕ) → Told v → Told w → (f v == f w) ≡ (v == w)
+  pub apart : (v w : ℕ) → Listed v → Listed w → (f v == f w) ≡ (v == w)
 
-module _ (g : EventGraph) (kept : List EventVertex) (f : ℕ → ℕ) (Named Told : ℕ → Type 0) (stay : Stay g kept f Named Told) where
+module _ (g : EventGraph) (kept : List EventVertex) (f : ℕ → ℕ) (Named Listed : ℕ → Type 0) (stay : Stay g kept f Named Listed) where
   abbrev pub of_kept : EventGraph
   of_kept = record g { watch = map (watched_renumbered f) g.watch; vertices = map (vertex_renumbered f) kept }
 
@@ -110,9 +110,9 @@ module _ (g : EventGraph) (kept : List EventVertex) (f : ℕ → ℕ) (Named Tol
     one (WatchedVariable v) there = of-among (IsWatchable (length g.variables) (length g.vertices)) g.watch (WatchedVariable v) k.watch there
     one (WatchedVertex v) there = within v (stay.watched v there).0 (of-among (IsWatchable (length g.variables) (length g.vertices)) g.watch (WatchedVertex v) k.watch there)
 
-  items : KeepsParts g → AllByRecursion (WatchedItem (length g.variables) Told) g.watch
-  items k = each-among (WatchedItem (length g.variables) Told) g.watch one where
-    one : (w : Watched) → Among w g.watch → WatchedItem (length g.variables) Told w
+  items : KeepsParts g → AllByRecursion (WatchedItem (length g.variables) Listed) g.watch
+  items k = each-among (WatchedItem (length g.variables) Listed) g.watch one where
+    one : (w : Watched) → Among w g.watch → WatchedItem (length g.variables) Listed w
     one (WatchedVariable v) there = of-among (IsWatchable (length g.variables) (length g.vertices)) g.watch (WatchedVariable v) k.watch there
     one (WatchedVertex v) there = (stay.watched v there).1
 
@@ -132,7 +132,7 @@ module _ (g : EventGraph) (kept : List EventVertex) (f : ℕ → ℕ) (Named Tol
     tables = k.tables;
     few_tables = k.few_tables;
     watch = watch_keeps k;
-    watched_once = watch_apart (length g.variables) f Told stay.apart g.watch (items k) k.watched_once;
+    watched_once = watch_apart (length g.variables) f Listed stay.apart g.watch (items k) k.watched_once;
     vertices = all-map (KeepsVertex g.variables (length g.tables) (parameters_of of_kept)) (vertex_renumbered f) kept (λ v there.
         keeps_vertex v there (of-among (KeepsVertex g.variables (length g.tables) (parameters_of g)) g.vertices v k.vertices (was-there v there)));
     few_vertices = le_trans (subst (λ n. n ≤ length g.vertices) (sym (length-map kept (vertex_renumbered f))) (some-few stay.some)) k.few_vertices;

@@ -135,9 +135,9 @@ blank_before {a = a} first = record {
       (f.0, f.1, f.2, f.3, λ rest left h lexed. Lexes-space at (a ++ rest) (f.1 ++ left) (f.4 rest left h (Lexes-at (at + suc (length a)) ((at + 1) + length a) rest left (omega arith) lexed)));
 }
 
-behind : {A : Type 0} {f : LanguageFormat A} {a : List ℕ} {F : List ℕ → Type 0} {i j : ℕ} {G : A → Type 0} (c : ℕ) → ((at : ℕ) (rest : List ℕ) (ts : List Lexeme) → Lexes (at + 1) rest ts → Lexes at (c ∷ rest) ts)
+one_passed : {A : Type 0} {f : LanguageFormat A} {a : List ℕ} {F : List ℕ → Type 0} {i j : ℕ} {G : A → Type 0} (c : ℕ) → ((at : ℕ) (rest : List ℕ) (ts : List Lexeme) → Lexes (at + 1) rest ts → Lexes at (c ∷ rest) ts)
     → ((rest : List ℕ) → F (c ∷ rest)) → Writes f a F i j G → Writes f (a ++ c ∷ []) Any i j G
-behind {a = a} c passes allowed first = record {
+one_passed {a = a} c passes allowed first = record {
   run = λ at.
       let f = first.run at in (
         f.0,
@@ -151,7 +151,7 @@ behind {a = a} c passes allowed first = record {
 }
 
 pub blank_after : {A : Type 0} {f : LanguageFormat A} {a : List ℕ} {F : List ℕ → Type 0} {i j : ℕ} {G : A → Type 0} → ((rest : List ℕ) → F (32 ∷ rest)) → Writes f a F i j G → Writes f (a ++ 32 ∷ []) Any i j G
-blank_after allowed first = behind 32 Lexes-space allowed first
+blank_after allowed first = one_passed 32 Lexes-space allowed first
 
 pub feed_after : {A : Type 0} {f : LanguageFormat A} {a : List ℕ} {F : List ℕ → Type 0} {i j : ℕ} {G : A → Type 0} → ((rest : List ℕ) → F (10 ∷ rest)) → Writes f a F i j G → Writes f (a ++ 10 ∷ []) Any i j G
-feed_after allowed first = behind 10 Lexes-feed allowed first
+feed_after allowed first = one_passed 10 Lexes-feed allowed first

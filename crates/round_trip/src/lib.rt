@@ -44,7 +44,7 @@ pub fn validity_is_by_parts()
 {}
 
 /// The canonical text of a valid model, at the front of any text whose other tokens are known, reads as that model.
-pub fn canonical_texts_stand_in_front()
+pub fn canonical_texts_read_in_front()
     ensures { (g : EventGraph) (rest : List ℕ) (left : List Lexeme) → KeepsStaticRules g
         → IsSpellable g → tokens_from (length (canonical g)) 0 rest ≡ Ok left
         → (w : WrittenModel) × (tokens : List Lexeme)

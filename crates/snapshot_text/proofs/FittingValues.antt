@@ -101,10 +101,10 @@ module _ (g : EventGraph) (raws : List RawSigned) (from next : ℕ) (out new : L
       let n = cell_count x in
       let vs = variables_watched g later in
       let k = if_good-some (cells_good x here) (from + n) next is in
-      let behind : drop n (drop from raws) ≡ drop next raws = drop-drop n from raws ∙ ap (λ i. drop i raws) (sym k.1) in (
-        ap (λ l. fit_variables (cell_variables vs) (map written_signed l)) (sym behind) ∙ ap (fit_variables (cell_variables vs)) (sym (drop-map written_signed n (drop from raws)))
+      let rest : drop n (drop from raws) ≡ drop next raws = drop-drop n from raws ∙ ap (λ i. drop i raws) (sym k.1) in (
+        ap (λ l. fit_variables (cell_variables vs) (map written_signed l)) (sym rest) ∙ ap (fit_variables (cell_variables vs)) (sym (drop-map written_signed n (drop from raws)))
             ∙ ap (λ b. b && fit_variables (cell_variables vs) (drop n here)) (sym k.0) ∙ sym (fit-cells x vs here) ∙ fit,
-        ap₂ (λ a l. a ++ signed_values (map written_signed l)) put (sym behind)
+        ap₂ (λ a l. a ++ signed_values (map written_signed l)) put (sym rest)
             ∙ append_assoc out (signed_values (map written_signed (take n (drop from raws)))) (signed_values (map written_signed (drop n (drop from raws)))) ∙ ap (λ l. out ++ l) (in-two n (drop from raws)) ∙ add,
       )
   one_watched_more (WatchedVertex v) is put fit add =

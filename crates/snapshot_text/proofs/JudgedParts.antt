@@ -20,8 +20,8 @@ if_good-none false x e = refl
 pub passed : (p : JudgedPart) (parts : List JudgedPart) → p.good ≡ true → first_bad_part (p ∷ parts) ≡ first_bad_part parts
 passed p parts e = ap (λ b. cond b (first_bad_part parts) (Some p.at)) e
 
-pub told : (p : JudgedPart) (parts : List JudgedPart) → p.good ≡ false → first_bad_part (p ∷ parts) ≡ Some p.at
-told p parts e = ap (λ b. cond b (first_bad_part parts) (Some p.at)) e
+pub first_bad-here : (p : JudgedPart) (parts : List JudgedPart) → p.good ≡ false → first_bad_part (p ∷ parts) ≡ Some p.at
+first_bad-here p parts e = ap (λ b. cond b (first_bad_part parts) (Some p.at)) e
 
 -- ---- parts of one kind
 
@@ -34,7 +34,7 @@ one_part_more part value x later y out first all is so_far made =
     )
 
 pub one_part_reported : {A B : Type 0} (part : A → JudgedPart) (value : A → B) (x : A) (later : List A) (first : Option ℕ) → None ≡ if_good (part x).good (value x) → first_bad_part (map part (x ∷ later)) ≡ first → first ≡ Some (part x).at
-one_part_reported part value x later first is so_far = sym so_far ∙ told (part x) (map part later) (if_good-none (part x).good (value x) is)
+one_part_reported part value x later first is so_far = sym so_far ∙ first_bad-here (part x) (map part later) (if_good-none (part x).good (value x) is)
 
 -- ---- streams
 
@@ -44,7 +44,7 @@ stream_passed least next s later total good is so_far =
     ap (λ n. first_bad_part (stream_parts n later)) is ∙ sym (passed (record { good = stream_good least s; at = s.at }) (stream_parts (suc (number_or_zero s.stream)) later) good) ∙ so_far
 
 pub stream_reported : (least : ℕ) (s : WrittenStream) (later : List WrittenStream) (total : Option ℕ) → stream_good least s ≡ false → first_bad_part (stream_parts least (s ∷ later)) ≡ total → total ≡ Some s.at
-stream_reported least s later total bad so_far = sym so_far ∙ told (record { good = stream_good least s; at = s.at }) (stream_parts (suc (number_or_zero s.stream)) later) bad
+stream_reported least s later total bad so_far = sym so_far ∙ first_bad-here (record { good = stream_good least s; at = s.at }) (stream_parts (suc (number_or_zero s.stream)) later) bad
 
 pub one_stream_more : (least number words : ℕ) (s : WrittenStream) (later : List WrittenStream) (taken : List ℕ) (first : Option ℕ) (all : List ℕ) → Some (number, words) ≡ if_good (stream_good least s) (stream_taken s) → number < 64
     → first_bad_part (stream_parts least (s ∷ later)) ≡ first → with_taken (s ∷ later) taken ≡ all → length taken ≡ 64
@@ -84,7 +84,7 @@ one_value_more v variables w later out added first all good is so_far made = (
 )
 
 pub one_value_reported : (v : Variable) (variables : List Variable) (w : WrittenValue) (later : List WrittenValue) (first : Option ℕ) → false ≡ value_good v w → first_bad_part (value_parts (v ∷ variables) (w ∷ later)) ≡ first → first ≡ Some w.at
-one_value_reported v variables w later first bad so_far = sym so_far ∙ told (record { good = value_good v w; at = w.at }) (value_parts variables later) (sym bad)
+one_value_reported v variables w later first bad so_far = sym so_far ∙ first_bad-here (record { good = value_good v w; at = w.at }) (value_parts variables later) (sym bad)
 
 -- ---- parts, and others after them
 
@@ -98,10 +98,10 @@ good_before (p ∷ a) b h =
     let k = one_before p.good (first_bad_part a) p.at h in
     ap (λ c. cond c (first_bad_part (a ++ b)) (Some p.at)) k.0 ∙ good_before a b k.1
 
-told_before : (good : Bool) (first all : Option ℕ) (at place : ℕ) → cond good first (Some at) ≡ Some place → (first ≡ Some place → all ≡ Some place) → cond good all (Some at) ≡ Some place
-told_before true first all at place h k = k h
-told_before false first all at place h k = h
+first_bad-earlier : (good : Bool) (first all : Option ℕ) (at place : ℕ) → cond good first (Some at) ≡ Some place → (first ≡ Some place → all ≡ Some place) → cond good all (Some at) ≡ Some place
+first_bad-earlier true first all at place h k = k h
+first_bad-earlier false first all at place h k = h
 
 pub bad_before : (a b : List JudgedPart) (at : ℕ) → first_bad_part a ≡ Some at → first_bad_part (a ++ b) ≡ Some at
 bad_before [] b at h = absurd cc
-bad_before (p ∷ a) b at h = told_before p.good (first_bad_part a) (first_bad_part (a ++ b)) p.at at h (λ e. bad_before a b at e)
+bad_before (p ∷ a) b at h = first_bad-earlier p.good (first_bad_part a) (first_bad_part (a ++ b)) p.at at h (λ e. bad_before a b at e)

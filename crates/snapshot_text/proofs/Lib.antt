@@ -1,10 +1,9 @@
-pub mod SnapshotFine
 pub mod NamesSpelled
 pub mod ExactNumbers
 pub mod SnapshotLines
 pub mod SnapshotWrites
-pub mod SnapshotStands
-pub mod SnapshotTold
+pub mod RunSpelled
+pub mod SnapshotReadsBack
 mod WholeSnapshots
 mod DigitsRead
 mod FewParameters
@@ -12,3 +11,4 @@ mod FittingValues
 mod JudgedParts
 mod PassingOver
 mod PrintedLines
+mod WrittenValues

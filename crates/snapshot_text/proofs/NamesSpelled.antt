@@ -24,8 +24,8 @@ writes-this_name {i} c w letter all free =
 
 -- ---- lists with commas
 
-pub comma_text : {i : ℕ} → Writes (mark symbols.Comma) (codes ",") Any i i (λ at. Unit {0})
-comma_text = a_mark 44 [] symbols.Comma (λ rest. refl) refl refl
+pub bare_comma : {i : ℕ} → Writes (mark symbols.Comma) (codes ",") Any i i (λ at. Unit {0})
+bare_comma = a_mark 44 [] symbols.Comma (λ rest. refl) refl refl
 
 module _ {A X : Type 0} {p : LanguageFormat A} (text : X → List ℕ) (cost : X → ℕ) (Good : X → Type 0) (Is : X → A → Type 0) (each-writes : (x : X) → Good x → (j : ℕ) → Writes p (text x) Ends (cost x + j) j (Is x)) where
   follows-commas : (xs : List X) (rest : List ℕ) → Ends rest → Ends (flat_map (λ y. codes "," ++ text y) xs ++ rest)
@@ -35,7 +35,7 @@ module _ {A X : Type 0} {p : LanguageFormat A} (text : X → List ℕ) (cost : X
   others-write : (xs : List X) → AllByRecursion Good xs → (j : ℕ) → Writes (Many (mark symbols.Comma *> p)) (flat_map (λ y. codes "," ++ text y) xs) Ends (openings_together cost xs + j) j (Pairs Is xs)
   others-write [] h j = writes-room (omega arith) (writes-none tt)
   others-write (x ∷ xs) h j =
-      writes-room (omega arith) (writes-more (writes-after comma_text (λ rest i. tt) (each-writes x h.0 (openings_together cost xs + j))) (follows-commas xs) (others-write xs h.1 j) (λ w ws i k. (i, k)))
+      writes-room (omega arith) (writes-more (writes-after bare_comma (λ rest i. tt) (each-writes x h.0 (openings_together cost xs + j))) (follows-commas xs) (others-write xs h.1 j) (λ w ws i k. (i, k)))
 
   pub commas-write : (x : X) (xs : List X) → AllByRecursion Good (x ∷ xs) → (j : ℕ) → Writes (separated p) (text x ++ flat_map (λ y. codes "," ++ text y) xs) Ends (openings_together cost (x ∷ xs) + j) j (Pairs Is (x ∷ xs))
   commas-write x xs h j =

@@ -15,7 +15,7 @@ use Rattle.text_laws.proofs.Formats.ManyLaws.{repeated-is, one_more-ok, one_more
 use Rattle.text_laws.proofs.Formats.TextLaws.{all-is_spelled, all-is_wrong}
 use Rattle.text_laws.proofs.ReadLoop.{shorter}
 use Rattle.snapshot_text.specs.Inner.Skimming.{skimmed, skims, skims_whole}
-use Rattle.snapshot_text.proofs.SnapshotFine.{snapshot-fine}
+use Rattle.text_laws.proofs.Formats.OneTokenDecides.{snapshot-fine}
 
 skimmed-next : {A B : Type 0} (f : A → B) (r : Parse A) → skimmed r ≡ skimmed (and_next (λ x rest. took (f x) rest) r)
 skimmed-next f (Ok r) = refl

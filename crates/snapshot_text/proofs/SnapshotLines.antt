@@ -1,7 +1,7 @@
 -- The lines of a snapshot, each read back at any place.
-use Rattle.std.proofs.Common.{◌≡◌, ℕ, zero, suc, ◌+◌, ◌-◌, ◌^◌, ◌<◌, ◌≤◌, ℤ, pos, true, false, List, [], ◌∷◌, ◌++◌, length, map, take, drop, refl, sym, ap, ap₂, subst, arith}
+use Rattle.std.proofs.Common.{◌≡◌, ℕ, zero, suc, ◌+◌, ◌-◌, ◌^◌, ◌<◌, ◌≤◌, ℤ, pos, true, List, [], ◌∷◌, ◌++◌, length, map, take, drop, refl, sym, ap, ap₂, subst, arith, false}
 use Rattle.std.specs.Option.{is_some}
-use Rattle.std.specs.Prelude.{◌&&◌, unwrap_or, Option, Some, None, codes, decimal, ◌==◌, if◌then◌else◌, IfSome}
+use Rattle.std.specs.Prelude.{◌&&◌, unwrap_or, Option, Some, None, codes, decimal, if◌then◌else◌, IfSome, ◌==◌}
 use Rattle.std.specs.List.{AllByRecursion}
 use Rattle.std.specs.Fmt.{signed_decimal}
 use Rattle.std.proofs.lemmas.Bool.Decides.{nat_tests}
@@ -15,7 +15,7 @@ use Rattle.model_core.specs.Text.Spellable.{IsName, IsSigned, sign_openings, ope
 use Rattle.model_core.specs.Text.Format.{Many, maybe, separated}
 use Rattle.model_core.specs.Text.Language.{signed_format}
 use Rattle.round_trip.proofs.LongestTokens.{Ends}
-use Rattle.round_trip.proofs.Writing.{Writes, Any, Takes, takes, writes-then, writes-made, writes-before, writes-after, writes-widened, writes-as, writes-text, writes-room, writes-some, writes-nothing, writes-none, writes-more, blank_before, blank_after, feed_after}
+use Rattle.round_trip.proofs.Writing.{Writes, Any, Takes, takes, writes-then, writes-made, writes-before, writes-after, writes-widened, writes-as, writes-room, writes-some, writes-nothing, writes-none, writes-more, blank_before, blank_after, feed_after, writes-text}
 use Rattle.round_trip.proofs.OneToken.{open_text, close_text, writes-name, writes-number}
 use Rattle.round_trip.proofs.ListText.{Pairs, signed-writes}
 use Rattle.model_core.specs.Saved.SavedRun.{IsWide}
@@ -48,14 +48,12 @@ pub data AreStreams : ℕ → List ℕ → List WrittenStream → Type 0 where
   silent : (k : ℕ) (taken : List ℕ) (ws : List WrittenStream) → AreStreams (suc k) taken ws → AreStreams k (0 ∷ taken) ws
   spoken : (k n : ℕ) (taken : List ℕ) (w : WrittenStream) (ws : List WrittenStream) → 0 < n → StreamIs k n w → AreStreams (suc k) taken ws → AreStreams k (n ∷ taken) (w ∷ ws)
 
-some-words : (n : ℕ) → (suc n == 0) ≡ false
-some-words n = grind (arith, nat_tests)
-
 pub streams-write : {i : ℕ} (k : ℕ) (taken : List ℕ) → k + length taken ≤ 64 → AllByRecursion (λ n. n ≤ 2 ^ 52) taken → Writes (Many stream_format) (stream_lines k taken) Any i i (AreStreams k taken)
 streams-write k [] near few = writes-none (no_streams k)
 streams-write k (zero ∷ taken) near (here, few) = writes-widened _ (λ ws are. silent k taken ws are) (streams-write (suc k) taken (omega arith) few)
 streams-write k (suc n ∷ taken) near (here, few) =
-    writes-text (ap (λ b. (if b then [] else codes "stream " ++ decimal k ++ codes " " ++ decimal (suc n) ++ codes "\n") ++ stream_lines (suc k) taken) (sym (some-words n))) (writes-more (stream-writes k (suc n) (omega arith) (omega arith)) (λ rest i. tt) (streams-write (suc k) taken (omega arith) few) (λ w ws is are. spoken k (suc n) taken w ws (omega arith) is are))
+    let some : (suc n == 0) ≡ false = grind (arith, nat_tests) in
+    writes-text (ap (λ b. (if b then [] else codes "stream " ++ decimal k ++ codes " " ++ decimal (suc n) ++ codes "\n") ++ stream_lines (suc k) taken) (sym some)) (writes-more (stream-writes k (suc n) (omega arith) (omega arith)) (λ rest i. tt) (streams-write (suc k) taken (omega arith) few) (λ w ws is are. spoken k (suc n) taken w ws (omega arith) is are))
 
 -- ---- values
 
@@ -190,7 +188,7 @@ pub record PendingIs (g : EventGraph) (clock : ℕ) (e : Entry) (w : WrittenPend
   pub values : map carried_of w.values ≡ e.values
 
 -- an event that a line can write
-pub record IsTellable (g : EventGraph) (clock : ℕ) (e : Entry) : Type 0 where
+pub record IsWritableEntry (g : EventGraph) (clock : ℕ) (e : Entry) : Type 0 where
   pub near : e.time - clock < 2 ^ 63
   pub low : e.priority < 2 ^ 63
   pub named : IsName (vertex_name g e.vertex)
@@ -199,7 +197,7 @@ pub record IsTellable (g : EventGraph) (clock : ℕ) (e : Entry) : Type 0 where
 abbrev pub entry_cost : Entry → ℕ
 entry_cost e = carried_cost e.values
 
-pub pending-writes : (g : EventGraph) (clock : ℕ) (e : Entry) → IsTellable g clock e → (j : ℕ) → Writes pending_format (pending_line g clock e) Any (entry_cost e + j) j (PendingIs g clock e)
+pub pending-writes : (g : EventGraph) (clock : ℕ) (e : Entry) → IsWritableEntry g clock e → (j : ℕ) → Writes pending_format (pending_line g clock e) Any (entry_cost e + j) j (PendingIs g clock e)
 unfolding pending_format
 pending-writes g clock e h j =
     feed_after (λ rest. refl) (writes-then (writes-then (blank_after (λ rest. refl) (writes-then (blank_after (λ rest. refl) (writes-then

@@ -1,8 +1,7 @@
 //! The pending events of a snapshot, where all that it says of them is good.
 
-ghost use Rattle.std.specs.Prelude.{◌≡◌, ◌++◌, ◌+◌, ◌≤◌, ◌^◌, true, [], length, map, unwrap_or};
+ghost use Rattle.std.specs.Prelude.{◌≡◌, ◌++◌, ◌+◌, ◌≤◌, ◌^◌, true, length, map};
 ghost use Rattle.std.specs.List.{AllByRecursion, list_all};
-ghost use Rattle.std.specs.Option.{option_map};
 ghost use Rattle.sig_base.specs.declared.limits.TheConstants.{PARAMETERS_MAX};
 ghost use Rattle.model_core.specs.EventGraph.{EventVertex};
 ghost use Rattle.model_core.specs.Run.Step.{vertex_at};
@@ -14,7 +13,7 @@ ghost use Rattle.snapshot_text.specs.Inner.RawParts.{written_carried, written_pe
 
 use crate::carried::carried_value;
 use crate::numbers::at_most;
-use crate::parts::{RawCarried, RawPending};
+use crate::parts::{RawCarried, RawPending, written_values};
 use crate::snapshot_error::SnapshotError;
 use event_list::Entry;
 use model_core::Model;
@@ -27,17 +26,6 @@ const TICKS_MAX: u64 = 9_223_372_036_854_775_807;
 
 /// The greatest priority.
 const PRIORITY_MAX: u64 = 255;
-
-/// The values that are written, and none where none are.
-fn written_values<'v, 't>(values: &'v Option<List<RawCarried<'t>>>) -> &'v [RawCarried<'t>]
-    ensures { map written_carried result.now
-        ≡ unwrap_or (option_map (map written_carried) values.now) [] }
-{
-    match values {
-        Some(values) => values.as_slice(),
-        None => &[],
-    }
-}
 
 /// Adds values, and gives whether all of them are numbers of 64 bits.
 fn add_carried(values: &mut Carried, written: &[RawCarried<'_>]) -> bool
@@ -60,14 +48,16 @@ fn parameter_count(model: &Model, vertex: usize) -> usize
     requires { AllByRecursion (λ (v : EventVertex). length v.parameters ≤ PARAMETERS_MAX)
         (graph_of model.now).vertices }
     ensures is { result ≡ length (vertex_at (graph_of model.now) vertex).parameters }
-    ensures few { result ≤ PARAMETERS_MAX }
+    ensures within_limit { result ≤ PARAMETERS_MAX }
 {
     model.parameters_at(vertex).len()
 }
 
 /// The event, if it is good for the model at this clock.
+#[tactic(auto, using(crate::proofs::WrittenValues::map_written))]
 fn entry_of(model: &Model, places: &Places, clock: u64, raw: &RawPending<'_>) -> Option<Entry>
-    requires few { AllByRecursion (λ (v : EventVertex). length v.parameters ≤ PARAMETERS_MAX)
+    requires parameters_fit { AllByRecursion
+        (λ (v : EventVertex). length v.parameters ≤ PARAMETERS_MAX)
         (graph_of model.now).vertices }
     requires placed { HasPlaces (names_of_vertices (graph_of model.now).vertices) places.now }
     requires early { clock ≤ 2 ^ 48 }
@@ -101,7 +91,8 @@ pub(crate) fn pending_of(
     clock: u64,
     raws: &[RawPending<'_>],
 ) -> Result<List<Entry>, SnapshotError>
-    requires few { AllByRecursion (λ (v : EventVertex). length v.parameters ≤ PARAMETERS_MAX)
+    requires parameters_fit { AllByRecursion
+        (λ (v : EventVertex). length v.parameters ≤ PARAMETERS_MAX)
         (graph_of model.now).vertices }
     requires early { clock ≤ 2 ^ 48 }
     ensures { Judged result

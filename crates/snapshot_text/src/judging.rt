@@ -31,7 +31,8 @@ fn later_judged(
     clock: u64,
     events: u64,
 ) -> Result<Snapshot, SnapshotError>
-    requires few { AllByRecursion (λ (v : EventVertex). length v.parameters ≤ PARAMETERS_MAX)
+    requires parameters_fit { AllByRecursion
+        (λ (v : EventVertex). length v.parameters ≤ PARAMETERS_MAX)
         (graph_of model.now).vertices }
     requires early { clock ≤ 2 ^ 48 }
     ensures { Judged result (later_parts (graph_of model.now) (written_snapshot raw.now))
@@ -61,7 +62,8 @@ pub(crate) fn judged(
     model: &Model,
     raw: &RawSnapshot<'_>,
 ) -> Result<Snapshot, SnapshotError>
-    requires few { AllByRecursion (λ (v : EventVertex). length v.parameters ≤ PARAMETERS_MAX)
+    requires parameters_fit { AllByRecursion
+        (λ (v : EventVertex). length v.parameters ≤ PARAMETERS_MAX)
         (graph_of model.now).vertices }
     ensures { Judged result (snapshot_parts (graph_of model.now) (written_snapshot raw.now))
         (λ s. s ≡ saved_run (graph_of model.now) (written_snapshot raw.now)) }

@@ -14,7 +14,7 @@ ghost use Rattle.model_core.specs.Saved.GoodSnapshots.{bad_at, saved_run};
 ghost use Rattle.model_core.specs.Text.SavedDocument.{SpellsSaved};
 ghost use Rattle.model_core.specs.Text.SnapshotGrammar.{WrittenSnapshot, IsSnapshot, IsNoSnapshotAt};
 
-use round_trip::canonical_texts_stand_in_front;
+use round_trip::canonical_texts_read_in_front;
 
 /// Tokens are one snapshot at most, and whether they are one is decided. Where they aren't, there is one first wrong
 /// place.
@@ -45,6 +45,6 @@ pub fn saved_documents_read_back()
         × SpellsSaved (canonical g ++ snapshot_text g s) m w × Accepted m g × (bad_at g w ≡ None)
         × (saved_run g w ≡ s) }
 {
-    canonical_texts_stand_in_front();
+    canonical_texts_read_in_front();
     saved_runs_read_back();
 }

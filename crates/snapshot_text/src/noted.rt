@@ -1,33 +1,22 @@
 //! The values of the last `at` note, where all that a snapshot says of them is good.
 
-ghost use Rattle.std.specs.Prelude.{◌≡◌, [], map, unwrap_or};
+ghost use Rattle.std.specs.Prelude.{◌≡◌};
 ghost use Rattle.std.specs.Option.{option_map};
 ghost use Rattle.model_core.specs.Code.Views.{graph_of};
-ghost use Rattle.model_core.specs.Code.WrittenViews.{written_signed};
 ghost use Rattle.model_core.specs.Text.SnapshotGrammar.{WrittenNoted};
 ghost use Rattle.model_core.specs.Saved.GoodSnapshots.{signed_values, noted_parts};
 ghost use Rattle.snapshot_text.specs.Inner.Judging.{Judged};
 ghost use Rattle.snapshot_text.specs.Inner.RawParts.{written_noted};
 
-use crate::parts::RawNoted;
+use crate::parts::{RawNoted, written_values};
 use crate::snapshot_error::SnapshotError;
 use crate::values::watched_values_of;
 use model_core::{Model, RawSigned};
 use sig_base::List;
 use std::alloc::Global;
 
-/// The values that are written, and none where none are.
-fn written_values(values: &Option<List<RawSigned>>) -> &[RawSigned]
-    ensures { map written_signed result.now
-        ≡ unwrap_or (option_map (map written_signed) values.now) [] }
-{
-    match values {
-        Some(values) => values.as_slice(),
-        None => &[],
-    }
-}
-
 /// The values that were noted last, if any are written.
+#[tactic(auto, using(crate::proofs::WrittenValues::map_written))]
 pub(crate) fn noted_of(
     alloc: Global,
     model: &Model,

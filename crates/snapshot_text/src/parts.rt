@@ -1,5 +1,7 @@
 //! The parts of a snapshot as they are written.
 
+ghost use Rattle.std.specs.Prelude.{◌≡◌, [], unwrap_or};
+
 use model_core::{RawNumber, RawSigned};
 use model_read::Spelling;
 use sig_base::List;
@@ -32,6 +34,16 @@ pub(crate) struct RawNoted {
 pub(crate) struct RawCarried<'t> {
     pub negative: bool,
     pub digits: Spelling<'t>,
+}
+
+/// The values that are written, and none where none are.
+pub(crate) fn written_values<T>(values: &Option<List<T>>) -> &[T]
+    ensures { result.now ≡ unwrap_or values.now [] }
+{
+    match values {
+        Some(values) => values.as_slice(),
+        None => &[],
+    }
 }
 
 /// A pending event.

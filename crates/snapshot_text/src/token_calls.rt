@@ -39,7 +39,8 @@ pub fn read_snapshot(
     tokens: &Tokens<'_>,
     from: usize,
 ) -> Result<Snapshot, SnapshotError>
-    requires few { AllByRecursion (λ (v : EventVertex). length v.parameters ≤ PARAMETERS_MAX)
+    requires parameters_fit { AllByRecursion
+        (λ (v : EventVertex). length v.parameters ≤ PARAMETERS_MAX)
         (graph_of model.now).vertices }
     requires spelled { (w : WrittenSnapshot) × IsSnapshot (drop from (lexemes tokens.now)) w }
     // The snapshot is good, and spells this saved run.

@@ -27,7 +27,8 @@ pub fn read_snapshot_pieces(
     pieces: &Pieces<'_>,
     from: usize,
 ) -> Result<Snapshot, SnapshotError>
-    requires few { AllByRecursion (λ (v : EventVertex). length v.parameters ≤ PARAMETERS_MAX)
+    requires parameters_fit { AllByRecursion
+        (λ (v : EventVertex). length v.parameters ≤ PARAMETERS_MAX)
         (graph_of model.now).vertices }
     requires spelled { (w : WrittenSnapshot)
         × IsSnapshot (drop from (pieces_lexemes pieces.now)) w }

@@ -5,7 +5,7 @@ pub returns : goal.returns
 returns c =
     let validity = c.validity_is_by_parts.ensures in
     let facts : ModelFacts = record { one_model = c.texts_read_as_one_model.ensures; by_parts = validity.by_parts; reads_back = validity.reads_back } in
-    let in_front : FrontFacts = record { stands_in_front = c.canonical_texts_stand_in_front.ensures; one_front = c.texts_have_one_reading.ensures.one_front } in
+    let in_front : FrontFacts = record { stands_in_front = c.canonical_texts_read_in_front.ensures; one_front = c.texts_have_one_reading.ensures.one_front } in
     record {
       alone = alone_tells facts;
       certified = certified_tells facts in_front;

@@ -12,8 +12,8 @@ use Rattle.job_answers.proofs.SavedModels.{parameters_within_maximum}
 use Rattle.job_answers.proofs.ErrorComplaints.{static_complaint_is, same_complaint}
 use Rattle.job_answers.proofs.saved_reading.saved_in.Goals as goal
 
-pub read_snapshot_pieces-requires-clause-few : goal.read_snapshot_pieces-requires-clause-few
-read_snapshot_pieces-requires-clause-few c = parameters_within_maximum (written_model c.in_ok-raw.raw) (graph_of c.in-Ok.model) c.in-Ok.ensures.accepted
+pub read_snapshot_pieces-requires-clause-parameters_fit : goal.read_snapshot_pieces-requires-clause-parameters_fit
+read_snapshot_pieces-requires-clause-parameters_fit c = parameters_within_maximum (written_model c.in_ok-raw.raw) (graph_of c.in-Ok.model) c.in-Ok.ensures.accepted
 
 pub returns-in_err-raw-clause-complaint : goal.returns-in_err-raw-clause-complaint
 returns-in_err-raw-clause-complaint c = λ what at e.

@@ -1,4 +1,4 @@
-use Rattle.snapshot_text.proofs.SnapshotTold.{snapshot-at}
+use Rattle.snapshot_text.proofs.SnapshotReadsBack.{snapshot-at}
 use Rattle.snapshot_text.proofs.laws.saved_runs_read_back.Goals as goal
 
 pub returns : goal.returns

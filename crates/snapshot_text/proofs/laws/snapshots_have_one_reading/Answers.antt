@@ -1,6 +1,6 @@
 use Rattle.text_laws.proofs.Formats.TextLaws.{one_value, spelled_or_wrong, one_wrong_place}
 use Rattle.model_core.specs.Text.SnapshotGrammar.{snapshot_format}
-use Rattle.snapshot_text.proofs.SnapshotFine.{snapshot-fine}
+use Rattle.text_laws.proofs.Formats.OneTokenDecides.{snapshot-fine}
 use Rattle.snapshot_text.proofs.laws.snapshots_have_one_reading.Goals as goal
 
 pub returns : goal.returns

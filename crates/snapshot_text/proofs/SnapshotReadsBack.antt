@@ -4,6 +4,7 @@ use Rattle.std.specs.Prelude.{Ok, IfSome, int_le}
 use Rattle.std.specs.List.{AllByRecursion}
 use Rattle.std.proofs.lemmas.Int.{ints}
 use Rattle.std.proofs.lemmas.Bool.{and_parts}
+use Rattle.sig_base.proofs.Tests.{true-int_le}
 use Rattle.model_core.specs.declared.model.Kind.{Kind}
 use Rattle.model_core.specs.declared.model.Kind.TheVariants as kinds
 use Rattle.model_core.specs.EventGraph.{EventGraph, Variable, Watched, WatchedVariable, WatchedVertex}
@@ -21,9 +22,9 @@ use Rattle.model_core.specs.Saved.SavedRun.{SavedRun, IsGoodEntry, IsGood}
 use Rattle.model_core.specs.Text.SnapshotGrammar.{WrittenSnapshot, IsSnapshot}
 use Rattle.model_core.specs.Text.SnapshotText.{snapshot_text}
 use Rattle.model_core.specs.Saved.GoodSnapshots.{bad_at, saved_run}
-use Rattle.snapshot_text.proofs.SnapshotLines.{HasValues, HaveValues, IsTellable}
+use Rattle.snapshot_text.proofs.SnapshotLines.{HasValues, HaveValues, IsWritableEntry}
 use Rattle.snapshot_text.proofs.SnapshotWrites.{IsWritable, snapshot-writes}
-use Rattle.snapshot_text.proofs.SnapshotStands.{of-variable, none-is_bad, stands-for}
+use Rattle.snapshot_text.proofs.RunSpelled.{of-variable, none-is_bad, run-spelled}
 
 -- ---- values that a text can write
 
@@ -41,9 +42,6 @@ between-signed lo (pos h) (pos n) low high from to = omega (arith, ints, high, t
 between-signed lo (negsuc h) (pos n) low high from to = absurd (omega (arith, ints, to))
 between-signed (pos l) hi (negsuc n) low high from to = absurd (omega (arith, ints, from))
 between-signed (negsuc l) hi (negsuc n) low high from to = omega (arith, ints, low, from)
-
-true-int_le : (a b : ℤ) → int_le a b ≡ true → a ≤ℤ b
-true-int_le a b e = grind (arith, ints)
 
 within-signed : (v : Variable) (x : ℤ) → SignedRange v → within v.lo v.hi x ≡ true → IsSigned x
 within-signed v x r e = between-signed v.lo v.hi x r.lo r.hi (true-int_le _ _ ((and_parts (int_le v.lo x) _ e).0)) (true-int_le _ _ ((and_parts (int_le v.lo x) _ e).1))
@@ -95,8 +93,8 @@ module _ (g : EventGraph) (if_good : KeepsStaticRules g) (spellable : IsSpellabl
   named : Named g (names_of g)
   named = named-by g spellable (record { declared_once = if_good.parts.declared_once; begins = begins_as_written g.variables if_good.parts.variables })
 
-  tellable : (clock : ℕ) (e : Entry) → IsGoodEntry g clock e → IsTellable g clock e
-  tellable clock e good = record {
+  writable_entry : (clock : ℕ) (e : Entry) → IsGoodEntry g clock e → IsWritableEntry g clock e
+  writable_entry clock e good = record {
     near = omega (arith, good.near, good.from_now);
     low = omega (arith, good.priority);
     named = (named.vertex e.vertex good.vertex).is_name;
@@ -114,7 +112,7 @@ module _ (g : EventGraph) (if_good : KeepsStaticRules g) (spellable : IsSpellabl
         words = good.words;
         values = have-values g.variables s.values spellable.variables good.values;
         noted = noted-signed (variables_watched g g.watch) (watched-signed g g.watch signed) s.noted good.noted;
-        pending = every-map (IsGoodEntry g s.clock) (IsTellable g s.clock) (tellable s.clock) s.pending good.pending;
+        pending = every-map (IsGoodEntry g s.clock) (IsWritableEntry g s.clock) (writable_entry s.clock) s.pending good.pending;
       }
 
   -- the value that is read of the text, which begins at this place
@@ -129,5 +127,5 @@ module _ (g : EventGraph) (if_good : KeepsStaticRules g) (spellable : IsSpellabl
         tokens_from_at at text tokens (Lexes-text at (text ++ []) text tokens (append-nil text) (whole.4 [] [] tt (Lexes-nil (at + length text)))),
         (whole.3 []).1,
         none-is_bad g found s good whole.0 whole.2,
-        stands-for g found s good whole.0 whole.2,
+        run-spelled g found s good whole.0 whole.2,
       )

@@ -1,13 +1,13 @@
 -- The written snapshot of a good saved run spells that run, and no part of it is bad.
-use Rattle.std.proofs.Common.{◌≡◌, ℕ, zero, suc, ◌+◌, ◌-◌, ◌*◌, ◌/◌, ◌%◌, ◌^◌, ◌<◌, ◌≤◌, ℤ, pos, neg_ℤ, ◌≤ℤ◌, true, false, not, ◌&&◌, cond, nat_lt, List, [], ◌∷◌, ◌++◌, length, map, take, drop, replicate, slice_set, Option, Some, None, option_map, unwrap_or, refl, sym, ap, ap₂, ◌∙◌, subst, arith, IsTrue, append_assoc}
-use Rattle.std.specs.Prelude.{IfSome, ◌==◌, int_le}
+use Rattle.std.proofs.Common.{◌≡◌, ℕ, zero, suc, ◌+◌, ◌-◌, ◌*◌, ◌/◌, ◌%◌, ◌^◌, ◌<◌, ◌≤◌, ℤ, pos, neg_ℤ, true, false, not, ◌&&◌, cond, nat_lt, List, [], ◌∷◌, ◌++◌, length, map, take, drop, replicate, slice_set, Option, Some, None, option_map, unwrap_or, refl, sym, ap, ap₂, ◌∙◌, subst, arith, IsTrue, append_assoc}
+use Rattle.std.specs.Prelude.{IfSome, ◌==◌}
 use Rattle.std.specs.List.{AllByRecursion, flat_map, list_all}
 use Rattle.std.proofs.lemmas.Bool.Decides.{nat_tests}
-use Rattle.std.proofs.lemmas.Int.{ints}
 use Rattle.std.proofs.lemmas.List.{length-replicate, length-map, take-append-drop}
 use Rattle.std.proofs.lemmas.Bool.{and_from}
 use Rattle.std.specs.Option.{option_map_or}
 use lib.Pointwise.{bytes_decides}
+use Rattle.sig_base.proofs.Tests.{nat_lt-suc, int_le-true}
 use Rattle.model_core.specs.Run.Step.{vertex_at}
 use Rattle.model_core.specs.Text.Lexing.{same_bytes}
 use Rattle.model_core.specs.Text.Numbering.{◌>>=◌, natural_of}
@@ -31,11 +31,8 @@ use Rattle.snapshot_text.proofs.SnapshotWrites.{SnapshotIs}
 number-is : (n : ℕ) (w : WrittenNumber) → IsNumber n w → number_or_zero w ≡ n
 number-is n w e = ap (λ v. unwrap_or (v >>= natural_of) 0) e
 
-below : (n most : ℕ) → n ≤ most → nat_lt n (suc most) ≡ true
-below n most few = grind (arith, nat_tests)
-
 is-at_most : (n most : ℕ) (w : WrittenNumber) → IsNumber n w → n ≤ most → is_at_most most w ≡ true
-is-at_most n most w e few = ap (λ v. option_map_or (λ k. nat_lt k (suc most)) (v >>= natural_of) false) e ∙ below n most few
+is-at_most n most w e few = ap (λ v. option_map_or (λ k. nat_lt k (suc most)) (v >>= natural_of) false) e ∙ nat_lt-suc n most few
 
 -- ---- parts that are good
 
@@ -60,31 +57,31 @@ streams-good least k taken ws (spoken i n others w us some is are) from near (he
     let order : nat_lt k least ≡ false = grind (arith, nat_tests) in
     let rises : not (nat_lt (number_or_zero w.stream) least) ≡ true = ap (λ x. not (nat_lt x least)) at ∙ ap not order in
     let positive : nat_lt 0 n ≡ true = grind (arith, nat_tests) in
-    let counted : from_one_to (2 ^ 52) w.words ≡ true = ap (λ v. option_map_or (λ m. nat_lt 0 m && nat_lt m (suc (2 ^ 52))) (v >>= natural_of) false) is.words_is ∙ and_from _ _ positive (below n (2 ^ 52) here) in (
+    let counted : from_one_to (2 ^ 52) w.words ≡ true = ap (λ v. option_map_or (λ m. nat_lt 0 m && nat_lt m (suc (2 ^ 52))) (v >>= natural_of) false) is.words_is ∙ and_from _ _ positive (nat_lt-suc n (2 ^ 52) here) in (
       and_from _ _ (and_from _ _ (is-at_most k 63 w.stream is.stream_is (omega arith)) rises) counted,
       streams-good (suc (number_or_zero w.stream)) (suc k) others us are (omega (arith, at)) (omega arith) few,
     )
 
-set-behind : (front : List ℕ) (n : ℕ) (rest : List ℕ) (k : ℕ) → length front ≡ k → slice_set (front ++ 0 ∷ rest) k n ≡ front ++ n ∷ rest
-set-behind [] n rest zero long = refl
-set-behind [] n rest (suc k) long = absurd (omega (arith, long))
-set-behind (x ∷ front) n rest zero long = absurd (omega (arith, long))
-set-behind (x ∷ front) n rest (suc k) long = ap (λ l. x ∷ l) (set-behind front n rest k (omega (arith, long)))
+set-after : (front : List ℕ) (n : ℕ) (rest : List ℕ) (k : ℕ) → length front ≡ k → slice_set (front ++ 0 ∷ rest) k n ≡ front ++ n ∷ rest
+set-after [] n rest zero long = refl
+set-after [] n rest (suc k) long = absurd (omega (arith, long))
+set-after (x ∷ front) n rest zero long = absurd (omega (arith, long))
+set-after (x ∷ front) n rest (suc k) long = ap (λ l. x ∷ l) (set-after front n rest k (omega (arith, long)))
 
-length-behind : (front : List ℕ) (n k : ℕ) → length front ≡ k → length (front ++ n ∷ []) ≡ suc k
-length-behind [] n k long = ap suc long
-length-behind (x ∷ front) n zero long = absurd (omega (arith, long))
-length-behind (x ∷ front) n (suc k) long = ap suc (length-behind front n k (omega (arith, long)))
+length-after : (front : List ℕ) (n k : ℕ) → length front ≡ k → length (front ++ n ∷ []) ≡ suc k
+length-after [] n k long = ap suc long
+length-after (x ∷ front) n zero long = absurd (omega (arith, long))
+length-after (x ∷ front) n (suc k) long = ap suc (length-after front n k (omega (arith, long)))
 
-streams-stand : (front : List ℕ) (k : ℕ) (taken : List ℕ) (ws : List WrittenStream) → length front ≡ k → AreStreams k taken ws → with_taken ws (front ++ replicate (length taken) 0) ≡ front ++ taken
-streams-stand front k taken ws long (no_streams i) = refl
-streams-stand front k taken ws long (silent i others us are) =
+streams-spelled : (front : List ℕ) (k : ℕ) (taken : List ℕ) (ws : List WrittenStream) → length front ≡ k → AreStreams k taken ws → with_taken ws (front ++ replicate (length taken) 0) ≡ front ++ taken
+streams-spelled front k taken ws long (no_streams i) = refl
+streams-spelled front k taken ws long (silent i others us are) =
     ap (with_taken us) (sym (append_assoc front (0 ∷ []) (replicate (length others) 0)))
-    ∙ streams-stand (front ++ 0 ∷ []) (suc k) others us (length-behind front 0 k long) are ∙ append_assoc front (0 ∷ []) others
-streams-stand front k taken ws long (spoken i n others w us some is are) =
+    ∙ streams-spelled (front ++ 0 ∷ []) (suc k) others us (length-after front 0 k long) are ∙ append_assoc front (0 ∷ []) others
+streams-spelled front k taken ws long (spoken i n others w us some is are) =
     ap (with_taken us) (ap₂ (λ a b. slice_set (front ++ 0 ∷ replicate (length others) 0) a b) (number-is k w.stream is.stream_is) (number-is n w.words is.words_is)
-    ∙ set-behind front n (replicate (length others) 0) k long ∙ sym (append_assoc front (n ∷ []) (replicate (length others) 0)))
-    ∙ streams-stand (front ++ n ∷ []) (suc k) others us (length-behind front n k long) are ∙ append_assoc front (n ∷ []) others
+    ∙ set-after front n (replicate (length others) 0) k long ∙ sym (append_assoc front (n ∷ []) (replicate (length others) 0)))
+    ∙ streams-spelled (front ++ n ∷ []) (suc k) others us (length-after front n k long) are ∙ append_assoc front (n ∷ []) others
 
 -- ---- values
 
@@ -106,12 +103,12 @@ no-values : (xs : List ℤ) → in_ranges [] xs ≡ true → [] ≡ xs
 no-values [] e = refl
 no-values (x ∷ xs) e = cc
 
-values-stand : (variables : List Variable) (values : List ℤ) (ws : List WrittenValue) → in_ranges (cell_variables variables) values ≡ true → AreValues variables values ws → flat_map (λ (w : WrittenValue). signed_values w.values) ws ≡ values
-values-stand [] values ws inside are = ap (flat_map (λ (w : WrittenValue). signed_values w.values)) are ∙ no-values values inside
-values-stand (v ∷ variables) values [] inside are = absurd are
-values-stand (v ∷ variables) values (w ∷ ws) inside (is, are) =
+values-spelled : (variables : List Variable) (values : List ℤ) (ws : List WrittenValue) → in_ranges (cell_variables variables) values ≡ true → AreValues variables values ws → flat_map (λ (w : WrittenValue). signed_values w.values) ws ≡ values
+values-spelled [] values ws inside are = ap (flat_map (λ (w : WrittenValue). signed_values w.values)) are ∙ no-values values inside
+values-spelled (v ∷ variables) values [] inside are = absurd are
+values-spelled (v ∷ variables) values (w ∷ ws) inside (is, are) =
     let (here, later) = of-variable v variables values inside in
-    ap₂ (λ a b. a ++ b) is.values.are (values-stand variables (drop (cell_count v) values) ws later are) ∙ take-append-drop (cell_count v) values
+    ap₂ (λ a b. a ++ b) is.values.are (values-spelled variables (drop (cell_count v) values) ws later are) ∙ take-append-drop (cell_count v) values
 
 values-many : (variables : List Variable) (values : List ℤ) (ws : List WrittenValue) → AreValues variables values ws → length ws ≡ length variables
 values-many [] values ws are = ap length are
@@ -126,18 +123,15 @@ noted-good g None (Some w) inside is = absurd is
 noted-good g (Some values) None inside is = absurd is
 noted-good g (Some values) (Some w) inside is = (and_from _ _ is.values.known (ap (in_ranges (cell_variables (variables_watched g g.watch))) is.values.are ∙ inside), tt)
 
-noted-stands : (o : Option (List ℤ)) (w : Option WrittenNoted) → MaybeNoted o w → option_map (λ (n : WrittenNoted). signed_values n.values) w ≡ o
-noted-stands None None is = refl
-noted-stands None (Some w) is = absurd is
-noted-stands (Some values) None is = absurd is
-noted-stands (Some values) (Some w) is = ap Some is.values.are
+noted-spelled : (o : Option (List ℤ)) (w : Option WrittenNoted) → MaybeNoted o w → option_map (λ (n : WrittenNoted). signed_values n.values) w ≡ o
+noted-spelled None None is = refl
+noted-spelled None (Some w) is = absurd is
+noted-spelled (Some values) None is = absurd is
+noted-spelled (Some values) (Some w) is = ap Some is.values.are
 
 -- ---- pending events
 
 module _ (g : EventGraph) (found : (v : ℕ) → v < length g.vertices → place_of_vertex (vertex_name g v) g.vertices ≡ Some v) (clock : ℕ) where
-  int_le-true : (a b : ℤ) → a ≤ℤ b → int_le a b ≡ true
-  int_le-true a b le = grind (arith, ints)
-
   wide-within : (x : ℤ) → IsWide x → within (neg_ℤ (pos (2 ^ 63))) (pos (2 ^ 63 - 1)) x ≡ true
   wide-within x w = and_from _ _ (int_le-true _ _ w.least) (int_le-true _ _ w.greatest)
 
@@ -161,8 +155,8 @@ module _ (g : EventGraph) (found : (v : ℕ) → v < length g.vertices → place
         same-count : (n m : ℕ) → n ≡ m → (n == m) ≡ true
         same-count n m e = grind (arith, nat_tests)
 
-  entry-stands : (e : Entry) (w : WrittenPending) → IsGoodEntry g clock e → PendingIs g clock e w → saved_entry g clock w ≡ e
-  entry-stands e w good is =
+  entry-spelled : (e : Entry) (w : WrittenPending) → IsGoodEntry g clock e → PendingIs g clock e w → saved_entry g clock w ≡ e
+  entry-spelled e w good is =
       let time : clock + number_or_zero w.ticks ≡ e.time = omega (arith, number-is (e.time - clock) w.ticks is.ticks, good.from_now) in
       let vertex : unwrap_or (place_of_vertex w.vertex.name g.vertices) 0 ≡ e.vertex = ap (λ o. unwrap_or o 0) (place-is e w good is) in
       ap₂ (λ t p. record { time = t; priority = p; vertex = unwrap_or (place_of_vertex w.vertex.name g.vertices) 0; values = map carried_of w.values }) time (number-is e.priority w.priority is.priority)
@@ -174,11 +168,11 @@ module _ (g : EventGraph) (found : (v : ℕ) → v < length g.vertices → place
   pending-good (e ∷ es) [] good are = absurd are
   pending-good (e ∷ es) (w ∷ ws) (here, good) (is, are) = (entry-good e w here is, pending-good es ws good are)
 
-  pending-stand : (es : List Entry) (ws : List WrittenPending) → AllByRecursion (IsGoodEntry g clock) es → Pairs (PendingIs g clock) es ws → map (saved_entry g clock) ws ≡ es
-  pending-stand [] [] good are = refl
-  pending-stand [] (w ∷ ws) good are = absurd are
-  pending-stand (e ∷ es) [] good are = absurd are
-  pending-stand (e ∷ es) (w ∷ ws) (here, good) (is, are) = ap₂ (λ x xs. x ∷ xs) (entry-stands e w here is) (pending-stand es ws good are)
+  pending-spelled : (es : List Entry) (ws : List WrittenPending) → AllByRecursion (IsGoodEntry g clock) es → Pairs (PendingIs g clock) es ws → map (saved_entry g clock) ws ≡ es
+  pending-spelled [] [] good are = refl
+  pending-spelled [] (w ∷ ws) good are = absurd are
+  pending-spelled (e ∷ es) [] good are = absurd are
+  pending-spelled (e ∷ es) (w ∷ ws) (here, good) (is, are) = ap₂ (λ x xs. x ∷ xs) (entry-spelled e w here is) (pending-spelled es ws good are)
 
 -- ---- the whole
 
@@ -208,13 +202,13 @@ module _ (g : EventGraph) (found : (v : ℕ) → v < length g.vertices → place
         ),
       )
 
-  pub stands-for : saved_run g w ≡ s
-  stands-for =
+  pub run-spelled : saved_run g w ≡ s
+  run-spelled =
       let seed : number_or_zero w.seed * 2 ^ 32 + number_or_zero w.seed_rest ≡ s.seed = omega (arith, number-is (s.seed / 2 ^ 32) w.seed is.seed, number-is (s.seed % 2 ^ 32) w.seed_rest is.seed_rest) in
       let clock = number-is s.clock w.clock is.clock in
-      let taken : with_taken w.streams (replicate 64 0) ≡ s.taken = ap (λ n. with_taken w.streams (replicate n 0)) (sym good.streams) ∙ streams-stand [] 0 s.taken w.streams refl is.streams in
-      let pending : map (saved_entry g (number_or_zero w.clock)) w.pending ≡ s.pending = ap (λ c. map (saved_entry g c) w.pending) clock ∙ pending-stand g found s.clock s.pending w.pending good.pending is.pending in
+      let taken : with_taken w.streams (replicate 64 0) ≡ s.taken = ap (λ n. with_taken w.streams (replicate n 0)) (sym good.streams) ∙ streams-spelled [] 0 s.taken w.streams refl is.streams in
+      let pending : map (saved_entry g (number_or_zero w.clock)) w.pending ≡ s.pending = ap (λ c. map (saved_entry g c) w.pending) clock ∙ pending-spelled g found s.clock s.pending w.pending good.pending is.pending in
       ap₂ (λ a b. record (saved_run g w) { seed = a; clock = b }) seed clock
       ∙ ap₂ (λ a b. record (saved_run g w) { seed = s.seed; clock = s.clock; events = a; taken = b }) (number-is s.events w.events is.events) taken
-      ∙ ap₂ (λ a b. record (saved_run g w) { seed = s.seed; clock = s.clock; events = s.events; taken = s.taken; values = a; noted = b }) (values-stand g.variables s.values w.values good.values is.values) (noted-stands s.noted w.noted is.noted)
+      ∙ ap₂ (λ a b. record (saved_run g w) { seed = s.seed; clock = s.clock; events = s.events; taken = s.taken; values = a; noted = b }) (values-spelled g.variables s.values w.values good.values is.values) (noted-spelled s.noted w.noted is.noted)
       ∙ ap (λ a. record s { pending = a }) pending

@@ -25,25 +25,25 @@ pub record Sound (k : ℕ) (tokens : List Lexeme) : Type 0 where
   pub few : deep_from OPENINGS_MAX k tokens ≡ None
 
 -- what holds of a value, of the openings that were left before it and of those that are left after it
-abbrev pub Telling : Type 0 → Type 1
-Telling A = ℕ → A → ℕ → Type 0
+abbrev pub ValueFact : Type 0 → Type 1
+ValueFact A = ℕ → A → ℕ → Type 0
 
 -- where each level derives this, R holds of what the format derives
-pub record Tells {A : Type 0} (levels : Level → Grammar WrittenExpression) (f : LanguageFormat A) (R : Telling A) : Type 0 where
+pub record Implies {A : Type 0} (levels : Level → Grammar WrittenExpression) (f : LanguageFormat A) (R : ValueFact A) : Type 0 where
   pub run : (k : ℕ) (tokens : List Lexeme) (v : A) (left : List Lexeme) → Sound k tokens → derives levels f tokens v left → (j : ℕ) × R k v j × Sound j left
 
 -- a function that maps each value with Q to one with R
-pub record Then {A B : Type 0} (Q : Telling A) (R : Telling B) (k : ℕ) (f : A → B) (i : ℕ) : Type 0 where
+pub record Then {A B : Type 0} (Q : ValueFact A) (R : ValueFact B) (k : ℕ) (f : A → B) (i : ℕ) : Type 0 where
   pub made : (x : A) (j : ℕ) → Q i x j → R k (f x) j
 
 -- a value that stays past what Q holds of
-pub record Past {A B : Type 0} (Q : Telling A) (R : Telling B) (k : ℕ) (y : B) (i : ℕ) : Type 0 where
+pub record Past {A B : Type 0} (Q : ValueFact A) (R : ValueFact B) (k : ℕ) (y : B) (i : ℕ) : Type 0 where
   pub kept : (x : A) (j : ℕ) → Q i x j → R k y j
 
-pub made : {A B : Type 0} {Q : Telling A} {R : Telling B} {k : ℕ} {f : A → B} {i : ℕ} → ((x : A) (j : ℕ) → Q i x j → R k (f x) j) → Then Q R k f i
+pub made : {A B : Type 0} {Q : ValueFact A} {R : ValueFact B} {k : ℕ} {f : A → B} {i : ℕ} → ((x : A) (j : ℕ) → Q i x j → R k (f x) j) → Then Q R k f i
 made h = record { made = h }
 
-pub kept : {A B : Type 0} {Q : Telling A} {R : Telling B} {k : ℕ} {y : B} {i : ℕ} → ((x : A) (j : ℕ) → Q i x j → R k y j) → Past Q R k y i
+pub kept : {A B : Type 0} {Q : ValueFact A} {R : ValueFact B} {k : ℕ} {y : B} {i : ℕ} → ((x : A) (j : ℕ) → Q i x j → R k y j) → Past Q R k y i
 kept h = record { kept = h }
 
 -- ---- one token
@@ -68,8 +68,8 @@ steps t left false false is opens (suc k) d = (suc k, refl, rw (is, opens) at d)
 abbrev pub Taken : LexemeKind → ℕ → ℕ → Type 0
 Taken kind k j = Steps (ends_part kind) (is_opening kind) k j
 
-tells-token : {A : Type 0} {levels : Level → Grammar WrittenExpression} (s : TokenSort) (f : Lexeme → A) (R : Telling A) → ((t : Lexeme) → GoodKind t.kind → sort_as s t.kind ≡ s → (k j : ℕ) → Taken t.kind k j → R k (f t) j) → Tells levels (Single s f) R
-tells-token {A} {levels} s f R makes = record { run = go }
+implies-token : {A : Type 0} {levels : Level → Grammar WrittenExpression} (s : TokenSort) (f : Lexeme → A) (R : ValueFact A) → ((t : Lexeme) → GoodKind t.kind → sort_as s t.kind ≡ s → (k j : ℕ) → Taken t.kind k j → R k (f t) j) → Implies levels (Single s f) R
+implies-token {A} {levels} s f R makes = record { run = go }
   where
     go : (k : ℕ) (tokens : List Lexeme) (v : A) (left : List Lexeme) → Sound k tokens → derives levels (Single s f) tokens v left → (j : ℕ) × R k v j × Sound j left
     go k [] v left sound d = absurd d
@@ -93,11 +93,11 @@ mark_kind (NumberOf n m) s e = cc
 mark_kind (Mark v) s e = let h : v ≡ s = cc in ap Mark h
 
 -- a reserved word and a symbol
-pub tells-word : {A : Type 0} {levels : Level → Grammar WrittenExpression} (w : Word) (f : Lexeme → A) → Tells levels (Single (AWord w) f) (λ k v j. ((t : Lexeme) × (f t ≡ v)) × Taken (Reserved w) k j)
-tells-word w f = tells-token (AWord w) f _ (λ t good same k j s. ((t, refl), subst (λ (x : LexemeKind). Taken x k j) (reserved_kind t.kind w same) s))
+pub implies-word : {A : Type 0} {levels : Level → Grammar WrittenExpression} (w : Word) (f : Lexeme → A) → Implies levels (Single (AWord w) f) (λ k v j. ((t : Lexeme) × (f t ≡ v)) × Taken (Reserved w) k j)
+implies-word w f = implies-token (AWord w) f _ (λ t good same k j s. ((t, refl), subst (λ (x : LexemeKind). Taken x k j) (reserved_kind t.kind w same) s))
 
-pub tells-symbol : {A : Type 0} {levels : Level → Grammar WrittenExpression} (m : Symbol) (f : Lexeme → A) → Tells levels (Single (ASymbol m) f) (λ k v j. ((t : Lexeme) × (f t ≡ v)) × Taken (Mark m) k j)
-tells-symbol m f = tells-token (ASymbol m) f _ (λ t good same k j s. ((t, refl), subst (λ (x : LexemeKind). Taken x k j) (mark_kind t.kind m same) s))
+pub implies-symbol : {A : Type 0} {levels : Level → Grammar WrittenExpression} (m : Symbol) (f : Lexeme → A) → Implies levels (Single (ASymbol m) f) (λ k v j. ((t : Lexeme) × (f t ≡ v)) × Taken (Mark m) k j)
+implies-symbol m f = implies-token (ASymbol m) f _ (λ t good same k j s. ((t, refl), subst (λ (x : LexemeKind). Taken x k j) (mark_kind t.kind m same) s))
 
 -- the word and the symbol alone
 abbrev pub AWordAt : Word → ℕ → ℕ → ℕ → Type 0
@@ -106,11 +106,11 @@ AWordAt w k at j = Taken (Reserved w) k j
 abbrev pub AMarkAt : Symbol → ℕ → ℕ → ℕ → Type 0
 AMarkAt m k at j = Taken (Mark m) k j
 
-pub tells-reserved : {levels : Level → Grammar WrittenExpression} (w : Word) → Tells levels (reserved w) (AWordAt w)
-tells-reserved w = tells-token (AWord w) _ (AWordAt w) (λ t good same k j s. subst (λ (x : LexemeKind). Taken x k j) (reserved_kind t.kind w same) s)
+pub implies-reserved : {levels : Level → Grammar WrittenExpression} (w : Word) → Implies levels (reserved w) (AWordAt w)
+implies-reserved w = implies-token (AWord w) _ (AWordAt w) (λ t good same k j s. subst (λ (x : LexemeKind). Taken x k j) (reserved_kind t.kind w same) s)
 
-pub tells-mark : {levels : Level → Grammar WrittenExpression} (m : Symbol) → Tells levels (mark m) (AMarkAt m)
-tells-mark m = tells-token (ASymbol m) _ (AMarkAt m) (λ t good same k j s. subst (λ (x : LexemeKind). Taken x k j) (mark_kind t.kind m same) s)
+pub implies-mark : {levels : Level → Grammar WrittenExpression} (m : Symbol) → Implies levels (mark m) (AMarkAt m)
+implies-mark m = implies-token (ASymbol m) _ (AMarkAt m) (λ t good same k j s. subst (λ (x : LexemeKind). Taken x k j) (mark_kind t.kind m same) s)
 
 abbrev pub AWrittenName : ℕ → WrittenName → ℕ → Type 0
 AWrittenName k n j = IsName n.name × (k ≡ j)
@@ -118,8 +118,8 @@ AWrittenName k n j = IsName n.name × (k ≡ j)
 abbrev pub AWrittenNumber : ℕ → WrittenNumber → ℕ → Type 0
 AWrittenNumber k n j = IsSmallNumber n.value × (k ≡ j)
 
-pub tells-name : {levels : Level → Grammar WrittenExpression} → Tells levels any_name AWrittenName
-tells-name = tells-token AName _ AWrittenName (λ t good same k j s. by-kind t.kind t.from good same k j s)
+pub implies-name : {levels : Level → Grammar WrittenExpression} → Implies levels any_name AWrittenName
+implies-name = implies-token AName _ AWrittenName (λ t good same k j s. by-kind t.kind t.from good same k j s)
   where
     by-kind : (kind : LexemeKind) (from : ℕ) → GoodKind kind → sort_of kind ≡ AName → (k j : ℕ) → Taken kind k j → IsName (name_bytes kind) × (k ≡ j)
     by-kind (NameOf b) from good same k j s = (good, s)
@@ -127,8 +127,8 @@ tells-name = tells-token AName _ AWrittenName (λ t good same k j s. by-kind t.k
     by-kind (NumberOf n m) from good same k j s = cc
     by-kind (Mark v) from good same k j s = cc
 
-pub tells-number : {levels : Level → Grammar WrittenExpression} → Tells levels any_number AWrittenNumber
-tells-number = tells-token ANumber _ AWrittenNumber (λ t good same k j s. by-kind t.kind t.from good same k j s)
+pub implies-number : {levels : Level → Grammar WrittenExpression} → Implies levels any_number AWrittenNumber
+implies-number = implies-token ANumber _ AWrittenNumber (λ t good same k j s. by-kind t.kind t.from good same k j s)
   where
     by-kind : (kind : LexemeKind) (from : ℕ) → GoodKind kind → sort_of kind ≡ ANumber → (k j : ℕ) → Taken kind k j → IsSmallNumber (number_value kind) × (k ≡ j)
     by-kind (NameOf b) from good same k j s = cc
@@ -139,7 +139,7 @@ tells-number = tells-token ANumber _ AWrittenNumber (λ t good same k j s. by-ki
 -- ---- parts in a row
 
 -- a part after another one
-pub record Behind {A B : Type 0} (Q : Telling A) (R : Telling B) (k : ℕ) (y : B) (j : ℕ) : Type 0 where
+pub record AfterPart {A B : Type 0} (Q : ValueFact A) (R : ValueFact B) (k : ℕ) (y : B) (j : ℕ) : Type 0 where
   pub value : A
   pub between : ℕ
   pub first : Q k value between
@@ -160,37 +160,37 @@ abbrev pub SomeSo : {A : Type 0} → (ℕ → A → ℕ → Type 0) → ℕ → 
 SomeSo R k xs j = IsNonEmpty xs × EachSo R k xs j
 
 module _ {levels : Level → Grammar WrittenExpression} where
-  pub tells-yields : {A : Type 0} (x : A) (R : Telling A) → ((k : ℕ) → R k x k) → Tells levels (Yields x) R
-  tells-yields x R holds = record { run = λ k tokens v left sound d. (k, subst (λ y. R k y k) d.0 (holds k), subst (Sound k) d.1 sound) }
+  pub implies-yields : {A : Type 0} (x : A) (R : ValueFact A) → ((k : ℕ) → R k x k) → Implies levels (Yields x) R
+  implies-yields x R holds = record { run = λ k tokens v left sound d. (k, subst (λ y. R k y k) d.0 (holds k), subst (Sound k) d.1 sound) }
 
-  pub tells-then : {A B : Type 0} {p : LanguageFormat (A → B)} {q : LanguageFormat A} {Q : Telling A} {R : Telling B} → Tells levels p (Then Q R) → Tells levels q Q → Tells levels (Apply p q) R
-  tells-then {B = B} {R = R} first second = record {
+  pub implies-then : {A B : Type 0} {p : LanguageFormat (A → B)} {q : LanguageFormat A} {Q : ValueFact A} {R : ValueFact B} → Implies levels p (Then Q R) → Implies levels q Q → Implies levels (Apply p q) R
+  implies-then {B = B} {R = R} first second = record {
     run = λ k tokens v left sound d.
         let f = first.run k tokens d.0 d.1 sound d.2 in
         let x = second.run f.0 d.1 d.3.0 d.3.1 f.2 d.3.2 in
         (x.0, subst (λ (y : B). R k y x.0) d.3.3.0 (f.1.made d.3.0 x.0 x.1), subst (Sound x.0) d.3.3.1 x.2);
   }
 
-  pub tells-made : {A B : Type 0} (g : A → B) {p : LanguageFormat A} {Q : Telling A} (R : Telling B) → Tells levels p Q → ((k : ℕ) (x : A) (j : ℕ) → Q k x j → R k (g x) j) → Tells levels (Apply (Yields g) p) R
-  tells-made g {Q = Q} R part makes = tells-then (tells-yields g (Then Q R) (λ k. made (λ x j q. makes k x j q))) part
+  pub implies-made : {A B : Type 0} (g : A → B) {p : LanguageFormat A} {Q : ValueFact A} (R : ValueFact B) → Implies levels p Q → ((k : ℕ) (x : A) (j : ℕ) → Q k x j → R k (g x) j) → Implies levels (Apply (Yields g) p) R
+  implies-made g {Q = Q} R part makes = implies-then (implies-yields g (Then Q R) (λ k. made (λ x j q. makes k x j q))) part
 
-  pub tells-past : {A B : Type 0} {p : LanguageFormat A} {q : LanguageFormat B} {Q : Telling B} {R : Telling A} → Tells levels p (Past Q R) → Tells levels q Q → Tells levels (p <* q) R
-  tells-past {Q = Q} {R = R} first second = tells-then (tells-made (λ x y. x) (Then Q R) first (λ k x i h. made (λ y j q. h.kept y j q))) second
+  pub implies-past : {A B : Type 0} {p : LanguageFormat A} {q : LanguageFormat B} {Q : ValueFact B} {R : ValueFact A} → Implies levels p (Past Q R) → Implies levels q Q → Implies levels (p <* q) R
+  implies-past {Q = Q} {R = R} first second = implies-then (implies-made (λ x y. x) (Then Q R) first (λ k x i h. made (λ y j q. h.kept y j q))) second
 
-  pub tells-behind : {A B : Type 0} {p : LanguageFormat A} {q : LanguageFormat B} {Q : Telling A} {R : Telling B} → Tells levels p Q → Tells levels q R → Tells levels (p *> q) (Behind Q R)
-  tells-behind {Q = Q} {R = R} first second = tells-then (tells-made (λ x y. y) (Then R (Behind Q R)) first (λ k x i h. made (λ y j q. record { value = x; between = i; first = h; second = q }))) second
+  pub implies-after : {A B : Type 0} {p : LanguageFormat A} {q : LanguageFormat B} {Q : ValueFact A} {R : ValueFact B} → Implies levels p Q → Implies levels q R → Implies levels (p *> q) (AfterPart Q R)
+  implies-after {Q = Q} {R = R} first second = implies-then (implies-made (λ x y. y) (Then R (AfterPart Q R)) first (λ k x i h. made (λ y j q. record { value = x; between = i; first = h; second = q }))) second
 
-  pub tells-as : {A : Type 0} {p : LanguageFormat A} {Q : Telling A} (R : Telling A) → ((k : ℕ) (x : A) (j : ℕ) → Q k x j → R k x j) → Tells levels p Q → Tells levels p R
-  tells-as R into part = record { run = λ k tokens v left sound d. let x = part.run k tokens v left sound d in (x.0, into k v x.0 x.1, x.2) }
+  pub implies-as : {A : Type 0} {p : LanguageFormat A} {Q : ValueFact A} (R : ValueFact A) → ((k : ℕ) (x : A) (j : ℕ) → Q k x j → R k x j) → Implies levels p Q → Implies levels p R
+  implies-as R into part = record { run = λ k tokens v left sound d. let x = part.run k tokens v left sound d in (x.0, into k v x.0 x.1, x.2) }
 
-  pub tells-either : {A : Type 0} {p q : LanguageFormat A} {R : Telling A} → Tells levels p R → Tells levels q R → Tells levels (Either p q) R
-  tells-either one other = record { run = λ k tokens v left sound d. elim d [ inl h ↦ one.run k tokens v left sound h | inr h ↦ other.run k tokens v left sound h ] }
+  pub implies-either : {A : Type 0} {p q : LanguageFormat A} {R : ValueFact A} → Implies levels p R → Implies levels q R → Implies levels (Either p q) R
+  implies-either one other = record { run = λ k tokens v left sound d. elim d [ inl h ↦ one.run k tokens v left sound h | inr h ↦ other.run k tokens v left sound h ] }
 
-  pub tells-maybe : {A : Type 0} {p : LanguageFormat A} (R : Telling A) → Tells levels p R → Tells levels (maybe p) (MaybeSo R)
-  tells-maybe R part = tells-either (tells-made (λ x. Some x) (MaybeSo R) part (λ k x j h. h)) (tells-yields None (MaybeSo R) (λ k. refl))
+  pub implies-maybe : {A : Type 0} {p : LanguageFormat A} (R : ValueFact A) → Implies levels p R → Implies levels (maybe p) (MaybeSo R)
+  implies-maybe R part = implies-either (implies-made (λ x. Some x) (MaybeSo R) part (λ k x j h. h)) (implies-yields None (MaybeSo R) (λ k. refl))
 
-  pub tells-many : {A : Type 0} {p : LanguageFormat A} (R : Telling A) → Tells levels p R → Tells levels (Many p) (EachSo R)
-  tells-many {A} {p} R part = record { run = go }
+  pub implies-many : {A : Type 0} {p : LanguageFormat A} (R : ValueFact A) → Implies levels p R → Implies levels (Many p) (EachSo R)
+  implies-many {A} {p} R part = record { run = go }
     where
       go : (k : ℕ) (tokens : List Lexeme) (xs : List A) (left : List Lexeme) → Sound k tokens → many (derives levels p) tokens xs left → (j : ℕ) × EachSo R k xs j × Sound j left
       go k tokens [] left sound d = (k, refl, subst (Sound k) d sound)
@@ -199,13 +199,13 @@ module _ {levels : Level → Grammar WrittenExpression} where
           let s = go f.0 d.0 xs left f.2 d.2 in
           (s.0, (f.0, f.1, s.1), s.2)
 
-  pub tells-some : {A : Type 0} {p : LanguageFormat A} (R : Telling A) → Tells levels p R → Tells levels (at_least_one p) (SomeSo R)
-  tells-some R part = tells-then (tells-made (λ x xs. x ∷ xs) (Then (EachSo R) (SomeSo R)) part (λ k x i h. made (λ xs j q. (tt, (i, h, q))))) (tells-many R part)
+  pub implies-some : {A : Type 0} {p : LanguageFormat A} (R : ValueFact A) → Implies levels p R → Implies levels (at_least_one p) (SomeSo R)
+  implies-some R part = implies-then (implies-made (λ x xs. x ∷ xs) (Then (EachSo R) (SomeSo R)) part (λ k x i h. made (λ xs j q. (tt, (i, h, q))))) (implies-many R part)
 
-  pub tells-separated : {A : Type 0} {p : LanguageFormat A} (R : Telling A) → Tells levels p R → Tells levels (separated p) (SomeSo R)
-  tells-separated R part =
-      tells-then (tells-made (λ x xs. x ∷ xs) (Then (EachSo R) (SomeSo R)) part (λ k x i h. made (λ xs j q. (tt, (i, h, q)))))
-      (tells-many R (tells-as R (λ k x j h. subst (λ (i : ℕ). R i x j) (sym h.first) h.second) (tells-behind (tells-mark symbols.Comma) part)))
+  pub implies-separated : {A : Type 0} {p : LanguageFormat A} (R : ValueFact A) → Implies levels p R → Implies levels (separated p) (SomeSo R)
+  implies-separated R part =
+      implies-then (implies-made (λ x xs. x ∷ xs) (Then (EachSo R) (SomeSo R)) part (λ k x i h. made (λ xs j q. (tt, (i, h, q)))))
+      (implies-many R (implies-as R (λ k x j h. subst (λ (i : ℕ). R i x j) (sym h.first) h.second) (implies-after (implies-mark symbols.Comma) part)))
 
 -- ---- values with numbers for names
 
