@@ -39,8 +39,8 @@ abbrev pub gauge_seen : RunStatus → Look
 gauge_seen standing = record { history = gauge_notes; standing = standing }
 
 -- the tally of the gauge: of TOCK, of A, of N, of TICK and of B
-abbrev pub told : RunEnd → ℕ → List Item → RunTally
-told end time items = record { end = end; time = time; items = items }
+abbrev pub tally_with : RunEnd → ℕ → List Item → RunTally
+tally_with end time items = record { end = end; time = time; items = items }
 
 -- so many runs, and their items together
 abbrev pub totalled : ℕ → List Item → RunTotals

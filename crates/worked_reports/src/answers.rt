@@ -1,4 +1,5 @@
-//! The answers about models, job by job, and the forms of answers: the job's own bytes, and no other status.
+//! The answers about models, job by job, and the forms of answers: the job's own bytes, and no
+//! other status.
 
 ghost use Rattle.std.specs.Prelude.{◌≡◌, ◌++◌, [], Some, None, codes};
 ghost use Rattle.command_words.specs.declared.reading.Reading.TheVariants as readings;
@@ -35,7 +36,8 @@ pub fn models_are_answered()
         (Refused refusals.Finished (codes "sigma: run finished\n")) }
 {}
 
-/// A job that is done has no other status and no other bytes, and a text that is refused has its line.
+/// A job that is done has no other status and no other bytes, and a text that is refused has its
+/// line.
 pub fn answers_have_forms()
     ensures done { done (codes "x") ≡ Given ends.Done (codes "x") }
     ensures is_done { IsDone (λ out. out ≡ codes "x") (Given ends.Done (codes "x")) }
@@ -46,8 +48,8 @@ pub fn answers_have_forms()
     ensures too_long { too_long ≡ codes "sigma: text too long\n" }
 {}
 
-/// Only of `uses` and `conflicts` there may be nothing to write. A text of as many bytes as the limit is within it, and one byte more
-/// is over it.
+/// Only of `uses` and `conflicts` there may be nothing to write. A text of as many bytes as the
+/// limit is within it, and one byte more is over it.
 pub fn answers_have_limits()
     ensures no_uses { HasNothingToWrite (readings.Model models.Uses) [] }
     ensures some_uses { HasNothingToWrite (readings.Model models.Uses) (codes "x") → ⊥ }

@@ -5,7 +5,8 @@ ghost use Rattle.command_words.specs.Arguments.{CommandWord, Setting, TwoDashes,
 ghost use Rattle.command_words.specs.ArgumentValues.{number_within, whole_number, starting_values, needed, besides};
 ghost use Rattle.worked_reports.specs.CommandLines.{words_in};
 
-/// Two dashes alone, before a name, or before a name with a value, which begins after the first `=`; any other word is of no such form.
+/// Two dashes alone, before a name, or before a name with a value, which begins after the first
+/// `=`; any other word is of no such form.
 pub fn words_have_forms()
     ensures two_dashes { form_of (codes "--") ≡ TwoDashes }
     ensures name { form_of (codes "--until") ≡ NameAlone (codes "until") }
@@ -19,11 +20,11 @@ pub fn words_have_forms()
     ensures dash_alone { form_of (codes "-") ≡ OtherForm }
     ensures nothing { form_of [] ≡ OtherForm }
     ensures plain { form_of (codes "run") ≡ OtherForm }
-    ensures dashes_behind { form_of (codes "run--until=1") ≡ OtherForm }
+    ensures dashes_after { form_of (codes "run--until=1") ≡ OtherForm }
 {}
 
-/// A name takes the next word as its value, unless that begins with `-`. The first `--` counts for nothing, and each word after it is to
-/// be the command.
+/// A name takes the next word as its value, unless that begins with `-`. The first `--` counts for
+/// nothing, and each word after it is to be the command.
 pub fn words_give_arguments()
     ensures nothing { arguments_of [] ≡ [] }
     ensures each { arguments_of (words_in (codes "run --until 5 --seed=1 check"))
@@ -33,10 +34,10 @@ pub fn words_give_arguments()
         ≡ Setting (codes "until") (codes "run") ∷ CommandWord (codes "check") ∷ [] }
     ensures empty_value { arguments_of (codes "--until" ∷ [] ∷ codes "run" ∷ [])
         ≡ Setting (codes "until") [] ∷ CommandWord (codes "run") ∷ [] }
-    ensures dash_behind { arguments_of (words_in (codes "--until -5 run"))
+    ensures dash_after { arguments_of (words_in (codes "--until -5 run"))
         ≡ CommandWord (codes "--until") ∷ CommandWord (codes "-5")
         ∷ CommandWord (codes "run") ∷ [] }
-    ensures option_behind { arguments_of (words_in (codes "--until --seed=1"))
+    ensures option_after { arguments_of (words_in (codes "--until --seed=1"))
         ≡ CommandWord (codes "--until") ∷ Setting (codes "seed") (codes "1") ∷ [] }
     ensures last { arguments_of (words_in (codes "run --until"))
         ≡ CommandWord (codes "run") ∷ CommandWord (codes "--until") ∷ [] }
@@ -44,7 +45,7 @@ pub fn words_give_arguments()
         ≡ CommandWord (codes "run") ∷ Setting (codes "until") (codes "5") ∷ [] }
     ensures last_dashes { arguments_of (words_in (codes "run --"))
         ≡ CommandWord (codes "run") ∷ [] }
-    ensures behind_dashes { arguments_of (words_in (codes "--until=5 -- run --seed=1 --room 3 --"))
+    ensures after_dashes { arguments_of (words_in (codes "--until=5 -- run --seed=1 --room 3 --"))
         ≡ Setting (codes "until") (codes "5") ∷ CommandWord (codes "run")
         ∷ CommandWord (codes "--seed=1") ∷ CommandWord (codes "--room") ∷ CommandWord (codes "3")
         ∷ CommandWord (codes "--") ∷ [] }
@@ -54,7 +55,8 @@ pub fn words_give_arguments()
     ensures dash_is_none { is_value (codes "-1") ≡ false }
 {}
 
-/// Words and values are in the order in which they are given. An option is one of those that are named, each time.
+/// Words and values are in the order in which they are given. An option is one of those that are
+/// named, each time.
 pub fn arguments_are_looked_up()
     ensures commands { command_words
         (CommandWord (codes "a") ∷ Setting (codes "x") (codes "1") ∷ CommandWord (codes "b") ∷ [])
@@ -74,8 +76,8 @@ pub fn arguments_are_looked_up()
     ensures none { has_only_options [] (CommandWord (codes "x") ∷ []) ≡ true }
 {}
 
-/// A number is one or more digits, leading zeros allowed, from the lowest to the highest that there may be. A starting value is a whole
-/// number inside 64 bits, and may have a `-`.
+/// A number is one or more digits, leading zeros allowed, from the lowest to the highest that there
+/// may be. A starting value is a whole number inside 64 bits, and may have a `-`.
 pub fn values_are_read()
     ensures lowest { number_within 3 7 (codes "3") ≡ Some 3 }
     ensures highest { number_within 3 7 (codes "7") ≡ Some 7 }
@@ -85,9 +87,9 @@ pub fn values_are_read()
     ensures no_digit { number_within 0 7 [] ≡ None }
     ensures plus { number_within 0 7 (codes "+1") ≡ None }
     ensures minus { number_within 0 7 (codes "-1") ≡ None }
-    ensures letter_behind { number_within 0 7 (codes "1x") ≡ None }
+    ensures letter_after { number_within 0 7 (codes "1x") ≡ None }
     ensures before_the_digits { number_within 0 7 (codes "/") ≡ None }
-    ensures behind_the_digits { number_within 0 70 (codes "1:") ≡ None }
+    ensures after_the_digits { number_within 0 70 (codes "1:") ≡ None }
     ensures least_whole { whole_number (codes "-9223372036854775808")
         ≡ Some (neg_ℤ (pos 9223372036854775808)) }
     ensures whole_below { whole_number (codes "-9223372036854775809") ≡ None }
@@ -101,7 +103,7 @@ pub fn values_are_read()
     ensures three_starts { starting_values (codes "5,-1,06")
         ≡ Some (pos 5 ∷ neg_ℤ (pos 1) ∷ pos 6 ∷ []) }
     ensures no_start { starting_values [] ≡ None }
-    ensures comma_behind { starting_values (codes "5,") ≡ None }
+    ensures comma_after { starting_values (codes "5,") ≡ None }
     ensures comma_before { starting_values (codes ",5") ≡ None }
     ensures two_commas { starting_values (codes "5,,6") ≡ None }
     ensures blank { starting_values (codes "5, 6") ≡ None }

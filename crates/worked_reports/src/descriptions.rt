@@ -5,8 +5,9 @@ ghost use Rattle.describe.specs.Description.{description};
 ghost use Rattle.worked_runs.specs.Models.{loop};
 ghost use Rattle.worked_reports.specs.DescribedModels.{office, declared_sentences, enter_sentences, leave_sentences};
 
-/// Each form of sentence: scalars, arrays, also of one cell, truth values and clip; tables; what is watched; sets of one and of more
-/// targets, and draws; each form of edge, with and without values, and with each condition but the word `true` described.
+/// Each form of sentence: scalars, arrays, also of one cell, truth values and clip; tables; what is
+/// watched; sets of one and of more targets, and draws; each form of edge, with and without values,
+/// and with each condition but the word `true` described.
 pub fn models_are_described()
     ensures each_sentence { description office
         ≡ declared_sentences ++ enter_sentences ++ leave_sentences }

@@ -1,5 +1,5 @@
-//! Which job each command line asks for: each command, both ends of each number, and each option that is missing, given twice or
-//! another command's.
+//! Which job each command line asks for: each command, both ends of each number, and each option
+//! that is missing, given twice or another command's.
 
 ghost use Rattle.std.specs.Prelude.{◌≡◌, pos, neg_ℤ, [], ◌∷◌, Some, None, codes};
 ghost use Rattle.command_words.specs.declared.job.Job.TheVariants as jobs;
@@ -8,7 +8,8 @@ ghost use Rattle.command_words.specs.declared.trial_options.TheConstants.{VERTIC
 ghost use Rattle.command_words.specs.Jobs.{job_of};
 ghost use Rattle.worked_reports.specs.CommandLines.{asked, a_run};
 
-/// The most that a command line may ask for, and the room that it asks for where it says nothing of that.
+/// The most that a command line may ask for, and the room that it asks for where it says nothing of
+/// that.
 pub fn limits_of_jobs_have_these_numbers()
     ensures room { ROOM_MAX ≡ 4_194_304 }
     ensures usual_room { ROOM_USUAL ≡ 4_096 }
@@ -26,7 +27,7 @@ pub fn plain_commands_are_jobs()
     ensures fuse { asked (codes "fuse") ≡ Some jobs.Fuse }
     ensures narrow { asked (codes "narrow") ≡ Some jobs.Narrow }
     ensures describe { asked (codes "describe") ≡ Some jobs.Describe }
-    ensures behind_dashes { asked (codes "-- check") ≡ Some jobs.Check }
+    ensures after_dashes { asked (codes "-- check") ≡ Some jobs.Check }
     ensures check_with_an_option { asked (codes "check --room=1") ≡ None }
     ensures print_with_an_option { asked (codes "print --room=1") ≡ None }
     ensures reduce_with_an_option { asked (codes "reduce --room=1") ≡ None }
@@ -54,10 +55,11 @@ pub fn other_words_are_no_job()
     ensures two_dashes { asked (codes "--check") ≡ None }
     ensures second_dashes { asked (codes "-- -- check") ≡ None }
     ensures empty_beside { job_of (codes "check" ∷ [] ∷ []) ≡ None }
-    ensures option_behind_dashes { asked (codes "run --until=1 --seed=2 -- --events=3") ≡ None }
+    ensures option_after_dashes { asked (codes "run --until=1 --seed=2 -- --events=3") ≡ None }
 {}
 
-/// `run` needs its stop time, seed and event budget, and may have starting values and room, which is 4,096 else.
+/// `run` needs its stop time, seed and event budget, and may have starting values and room, which
+/// is 4,096 else.
 pub fn runs_are_asked_for()
     ensures usual { asked (codes "run --until=1 --seed=2 --events=3") ≡ a_run 1 2 3 [] 4096 }
     ensures least { asked (codes "run --until=0 --seed=0 --events=1 --room=0") ≡ a_run 0 0 1 [] 0 }
@@ -216,4 +218,64 @@ pub fn trials_are_asked_for()
         ≡ None }
     ensures no_runs { asked (codes "trial --until=1 --seed=2 --events=3 --vertices=4 --runs=1")
         ≡ None }
+{}
+
+/// An option is one word or two, and words come in any order.
+pub fn words_come_in_any_order()
+    ensures two_words { asked (codes "run --until 12 --seed 42 --events 1000")
+        ≡ a_run 12 42 1000 [] 4096 }
+    ensures options_first { asked (codes "--events=1000 --seed 42 run --until=12")
+        ≡ a_run 12 42 1000 [] 4096 }
+    ensures command_last { asked (codes "--until 12 --seed=42 --events=1000 run")
+        ≡ a_run 12 42 1000 [] 4096 }
+    ensures dashes_before { asked (codes "--until=12 --seed=42 --events=1000 -- run")
+        ≡ a_run 12 42 1000 [] 4096 }
+    ensures dashes_last { asked (codes "run --until=12 --seed=42 --events=1000 --")
+        ≡ a_run 12 42 1000 [] 4096 }
+    ensures check_before_dashes { asked (codes "check --") ≡ Some jobs.Check }
+    ensures print_after_dashes { asked (codes "-- print") ≡ Some jobs.Print }
+    ensures trial { asked (codes "trial --seed 42 --vertices 2 --until 20 --events 100")
+        ≡ Some (jobs.Trial 42 2 20 100) }
+    ensures trial_in_between { asked
+        (codes "--vertices=500 trial --seed 18446744073709551615 --events=100 --until=20")
+        ≡ Some (jobs.Trial 18446744073709551615 500 20 100) }
+    ensures replications { asked (codes "replicate --until 12 --seed 1 --events 100 --runs 2")
+        ≡ Some (jobs.Replicate 12 1 100 2 []) }
+    ensures replications_in_between { asked
+        (codes "--runs=65536 replicate --seed 18446744073709551615 --events=100 --until=12 --start=-3,0")
+        ≡ Some (jobs.Replicate 12 18446744073709551615 100 65536 (neg_ℤ (pos 3) ∷ pos 0 ∷ [])) }
+    ensures saved { asked (codes "save --until 12 --seed 1 --events 2")
+        ≡ Some (jobs.Save 12 1 2 []) }
+    ensures saved_last { asked (codes "--start=-3,0 --seed=0 --until=12 --events=2 save")
+        ≡ Some (jobs.Save 12 0 2 (neg_ℤ (pos 3) ∷ pos 0 ∷ [])) }
+    ensures resumed { asked (codes "resume --until 12 --events 2")
+        ≡ Some (jobs.Resume 12 2 4096) }
+    ensures resumed_with_room { asked (codes "resume --room=0 --until=12 --events=2")
+        ≡ Some (jobs.Resume 12 2 0) }
+{}
+
+/// A number may begin with any number of zeros, and a starting value with a sign before them.
+pub fn numbers_may_begin_with_zeros()
+    ensures run { asked
+        (codes "run --until=0000000000000000000000000000000000000000012 --seed=00042 --events=01000 --room=0000004096")
+        ≡ a_run 12 42 1000 [] 4096 }
+    ensures trial { asked (codes "--vertices 01 --seed=0 --events 0100 --until 20 -- trial")
+        ≡ Some (jobs.Trial 0 1 20 100) }
+    ensures replications { asked (codes "--runs 01 --seed=0 --events 0100 --until 12 -- replicate")
+        ≡ Some (jobs.Replicate 12 0 100 1 []) }
+    ensures one_start { asked (codes "run --until=12 --seed=42 --events=1000 --start 5")
+        ≡ a_run 12 42 1000 (pos 5 ∷ []) 4096 }
+    ensures start_with_a_sign { asked (codes "run --until=12 --seed=42 --events=1000 --start=-5")
+        ≡ a_run 12 42 1000 (neg_ℤ (pos 5) ∷ []) 4096 }
+    ensures starts_with_zeros { asked
+        (codes "run --until=12 --seed=42 --events=1000 --start=0,-0,007,-03")
+        ≡ a_run 12 42 1000 (pos 0 ∷ pos 0 ∷ pos 7 ∷ neg_ℤ (pos 3) ∷ []) 4096 }
+    ensures starts_at_both_ends { asked
+        (codes "run --until=12 --seed=42 --events=1000 --start=9223372036854775807,-9223372036854775808")
+        ≡ a_run 12 42 1000
+        (pos 9223372036854775807 ∷ neg_ℤ (pos 9223372036854775808) ∷ []) 4096 }
+    ensures nine_starts { asked
+        (codes "run --until=12 --seed=42 --events=1000 --start 1,2,3,4,5,6,7,8,9")
+        ≡ a_run 12 42 1000
+        (pos 1 ∷ pos 2 ∷ pos 3 ∷ pos 4 ∷ pos 5 ∷ pos 6 ∷ pos 7 ∷ pos 8 ∷ pos 9 ∷ []) 4096 }
 {}

@@ -1,6 +1,6 @@
-//! Definitions of the crates above `worked_runs` computed on small examples: tallies and their totals, reports, descriptions, models
-//! that numbers make, trials, words of the command line, and what is answered. The clauses are theorems. The functions that carry
-//! them do nothing.
+//! Definitions of the crates above `worked_runs` computed on small examples: tallies and their
+//! totals, reports, descriptions, models that numbers make, trials, words of the command line, and
+//! what is answered. The clauses are theorems. The functions that carry them do nothing.
 #![tactic(auto)]
 
 mod answers;
@@ -24,9 +24,9 @@ pub use arguments::{
 };
 pub use descriptions::models_are_described;
 pub use jobs::{
-    limits_of_jobs_have_these_numbers, other_words_are_no_job, plain_commands_are_jobs,
-    replications_are_asked_for, resumed_runs_are_asked_for, runs_are_asked_for,
-    saved_runs_are_asked_for, trials_are_asked_for,
+    limits_of_jobs_have_these_numbers, numbers_may_begin_with_zeros, other_words_are_no_job,
+    plain_commands_are_jobs, replications_are_asked_for, resumed_runs_are_asked_for,
+    runs_are_asked_for, saved_runs_are_asked_for, trials_are_asked_for, words_come_in_any_order,
 };
 pub use made_models::{numbers_make_models, vertices_have_forms, words_make_vertices};
 pub use part_complaints::{

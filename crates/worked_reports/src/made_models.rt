@@ -5,8 +5,8 @@ ghost use Rattle.model_core.specs.EventGraph.{Scalar, Below, AtLeast, Above, Wat
 ghost use Rattle.model_gen.specs.Generated.{counter, gap, picked_below, vertex_by, generated_vertex, generated};
 ghost use Rattle.worked_runs.specs.Building.{ranged, clipped, whole, set, draw, schedule, urgent, only_if, event, plus_one, scalar_is};
 
-/// The counter that a vertex raises, a draw in the first and the last form, and the edges of each form: to the vertex picked, to the
-/// next one, and from the last one back to the first.
+/// The counter that a vertex raises, a draw in the first and the last form, and the edges of each
+/// form: to the vertex picked, to the next one, and from the last one back to the first.
 pub fn vertices_have_forms()
     ensures first { vertex_by 7 4 5 0 2
         ≡ event (codes "E4") (set 5 (plus_one 5) ∷ draw 8 54 1 6 ∷ [])
@@ -30,8 +30,8 @@ pub fn vertices_have_forms()
         ∷ only_if (scalar_is Below 1 100) (schedule 0 (Scalar 8)) ∷ []) }
 {}
 
-/// Each vertex takes three words of stream 54, for one of eight counters, one of four forms and one of the vertices. The first six of
-/// them under seed 42 pick 5, 1 and 1, and 4, 2 and 1.
+/// Each vertex takes three words of stream 54, for one of eight counters, one of four forms and one
+/// of the vertices. The first six of them under seed 42 pick 5, 1 and 1, and 4, 2 and 1.
 #[tactic(auto, unfolding(rand_pcg::specs::Lcg::state_after))]
 pub fn words_make_vertices()
     ensures counter_of_the_first { picked_below 42 0 8 ≡ 5 }
@@ -45,7 +45,8 @@ pub fn words_make_vertices()
     ensures one_of_100 { generated_vertex 42 100 1 ≡ vertex_by 100 1 4 2 79 }
 {}
 
-/// The variables are C0 to C7 and GAP, C0 and C1 are watched, and there are as many vertices as are asked for.
+/// The variables are C0 to C7 and GAP, C0 and C1 are watched, and there are as many vertices as are
+/// asked for.
 pub fn numbers_make_models()
     ensures counters { counter 7 ≡ clipped (ranged (codes "C7") 0 99 0) }
     ensures gap { gap ≡ ranged (codes "GAP") 1 6 1 }

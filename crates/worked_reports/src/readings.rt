@@ -11,7 +11,8 @@ ghost use Rattle.command_words.specs.KeptLimits.{KeepsLimits};
 ghost use Rattle.command_words.specs.Readings.{reading_of, limit_of};
 ghost use Rattle.worked_reports.specs.CommandLines.{of_run, of_replicate, of_save, of_resume, of_trial};
 
-/// Eleven jobs read a model, `certify` a document and `resume` a saved one, and `trial` reads nothing. Each asks what the words asked.
+/// Eleven jobs read a model, `certify` a document and `resume` a saved one, and `trial` reads
+/// nothing. Each asks what the words asked.
 pub fn jobs_read_so()
     ensures check { reading_of jobs.Check ≡ readings.Model models.Check }
     ensures print { reading_of jobs.Print ≡ readings.Model models.Print }
@@ -47,7 +48,8 @@ pub fn readings_have_limits()
     ensures nothing { limit_of (of_trial 1 2 3) ≡ None }
 {}
 
-/// The limits on the options of each job, at both ends. A run has none on its seed and its room, for no clause asks for one.
+/// The limits on the options of each job, at both ends. A run has none on its seed and its room,
+/// for no clause asks for one.
 pub fn options_keep_limits()
     ensures run { KeepsLimits (of_run 281474976710656 1099511627776) }
     ensures run_too_long { KeepsLimits (of_run 281474976710657 1) → ⊥ }

@@ -6,11 +6,11 @@ ghost use Rattle.tally_report.specs.declared.run_tally.RunEnd.TheVariants as end
 ghost use Rattle.tally_report.specs.Totalling.{totals_of};
 ghost use Rattle.tally_report.specs.ReportText.{header_row, item_names, run_rows, total_rows, item_rows, run_heading, total_heading};
 ghost use Rattle.worked_reports.specs.Gauge.{gauge};
-ghost use Rattle.worked_reports.specs.GaugeRuns.{cell, no_value, told, totalled};
+ghost use Rattle.worked_reports.specs.GaugeRuns.{cell, no_value, tally_with, totalled};
 ghost use Rattle.worked_reports.specs.ShelfReport.{shelf, shelf_run, shelf_unseen};
 
-/// A value holds up to the next `at` note, and the last one up to the end; a value of an `on` note counts for nothing. Totals
-/// have no last value, and a run without a note adds no value to them.
+/// A value holds up to the next `at` note, and the last one up to the end; a value of an `on` note
+/// counts for nothing. Totals have no last value, and a run without a note adds no value to them.
 pub fn a_shelf_is_reported()
     ensures header { header_row
         ≡ codes "run,seed,outcome,time,item,least,greatest,last,area,count\n" }
@@ -25,7 +25,8 @@ pub fn a_shelf_is_reported()
         ++ codes "total,,,,A[0],0,5,,100,\n" ++ codes "total,,,,A[1],-1,6,,18,\n" }
 {}
 
-/// A cell of an array, also of one cell, has its index in brackets. The names are those of the watch list, in its order.
+/// A cell of an array, also of one cell, has its index in brackets. The names are those of the
+/// watch list, in its order.
 pub fn items_have_names()
     ensures in_order { item_names gauge
         ≡ codes "TOCK" ∷ codes "A[0]" ∷ codes "A[1]" ∷ codes "N" ∷ codes "TICK"
@@ -33,22 +34,23 @@ pub fn items_have_names()
     ensures nothing_watched { item_names (record gauge { watch = [] }) ≡ [] }
 {}
 
-/// A row names the run, its seed, how and when it ended, the item, its least, greatest and last value, its area or its count. A total
-/// names the item, its least and greatest value, its area or its count.
+/// A row names the run, its seed, how and when it ended, the item, its least, greatest and last
+/// value, its area or its count. A total names the item, its least and greatest value, its area or
+/// its count.
 pub fn items_have_rows()
-    ensures ended { item_rows (run_heading 3 40 (told ends.Ended 9 [])) (codes "N" ∷ [])
+    ensures ended { item_rows (run_heading 3 40 (tally_with ends.Ended 9 [])) (codes "N" ∷ [])
         (cell (negsuc 0) (pos 2) (pos 1) (pos 5) ∷ []) ≡ codes "3,40,ended,9,N,-1,2,1,5,\n" }
-    ensures faulted { item_rows (run_heading 3 40 (told ends.Fault 9 [])) (codes "N" ∷ [])
+    ensures faulted { item_rows (run_heading 3 40 (tally_with ends.Fault 9 [])) (codes "N" ∷ [])
         (no_value (pos 0) ∷ []) ≡ codes "3,40,fault,9,N,,,,0,\n" }
-    ensures stopped { item_rows (run_heading 3 40 (told ends.Stopped 9 [])) (codes "N" ∷ [])
+    ensures stopped { item_rows (run_heading 3 40 (tally_with ends.Stopped 9 [])) (codes "N" ∷ [])
         (cell (pos 1) (pos 2) (negsuc 2) (negsuc 4) ∷ []) ≡ codes "3,40,stopped,9,N,1,2,-3,-5,\n" }
-    ensures spent { item_rows (run_heading 3 40 (told ends.Budget 9 [])) (codes "N" ∷ [])
+    ensures spent { item_rows (run_heading 3 40 (tally_with ends.Budget 9 [])) (codes "N" ∷ [])
         (items.Count 12 ∷ []) ≡ codes "3,40,budget,9,N,,,,,12\n" }
     ensures total { item_rows total_heading (codes "N" ∷ codes "A" ∷ codes "B" ∷ [])
         (cell (negsuc 0) (pos 2) (pos 1) (pos 5) ∷ items.Count 12 ∷ no_value (pos 0) ∷ [])
         ≡ codes "total,,,,N,-1,2,,5,\ntotal,,,,A,,,,,12\ntotal,,,,B,,,,0,\n" }
     ensures largest_seed { run_rows gauge 65536 18446744073709551615
-        (told ends.Ended 281474976710656
+        (tally_with ends.Ended 281474976710656
         (items.Count 1 ∷ no_value (pos 0) ∷ no_value (pos 0) ∷ no_value (pos 0) ∷ items.Count 2
         ∷ no_value (pos 0) ∷ []))
         ≡ codes "65536,18446744073709551615,ended,281474976710656,TOCK,,,,,1\n"

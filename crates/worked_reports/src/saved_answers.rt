@@ -1,4 +1,5 @@
-//! What `save` and `resume` answer, and what `run` does: starting values, ends, and the order of what is refused.
+//! What `save` and `resume` answer, and what `run` does: starting values, ends, and the order of
+//! what is refused.
 
 ghost use Rattle.std.specs.Prelude.{◌≡◌, ◌+◌, ◌++◌, ℕ, pos, neg_ℤ, List, [], ◌∷◌, Some, None, codes, length};
 ghost use Rattle.sig_base.specs.declared.fault.FaultKind.TheVariants as faults;
@@ -17,7 +18,8 @@ ghost use Rattle.worked_runs.specs.Models.{clock, strict_clock, ordering, taking
 ghost use Rattle.worked_runs.specs.SavedExamples.{saved_clock};
 ghost use Rattle.worked_reports.specs.AskedOptions.{saving, resuming, after_events, with_many_pending};
 
-/// There is one starting value for each parameter, each in its range. Their number is looked at first, and then the first one outside.
+/// There is one starting value for each parameter, each in its range. Their number is looked at
+/// first, and then the first one outside.
 pub fn starting_values_are_judged()
     ensures ends_of_ranges { start_refusal
         (taking_two (ranged (codes "X") 2 9 2) (ranged (codes "Y") 0 5 0) []) (pos 2 ∷ pos 5 ∷ [])
@@ -38,7 +40,8 @@ pub fn starting_values_are_judged()
         ≡ Some (codes "sigma: starting values needed 0 given 3\n") }
 {}
 
-/// A run that ends or stops is done, and one that faults or whose budget is spent has a status of its own.
+/// A run that ends or stops is done, and one that faults or whose budget is spent has a status of
+/// its own.
 pub fn runs_are_answered()
     ensures ended { (time : ℕ) → end_of (Ended time) ≡ ends.Done }
     ensures stopped { end_of Stopped ≡ ends.Done }
@@ -54,8 +57,8 @@ pub fn runs_are_answered()
         ≡ Refused refusals.BadStart (codes "sigma: starting values needed 0 given 1\n") }
 {}
 
-/// `save` answers a document where the run goes on, and refuses starting values first, then a run that is over in any way, and then a
-/// document of more than 24 MiB.
+/// `save` answers a document where the run goes on, and refuses starting values first, then a run
+/// that is over in any way, and then a document of more than 24 MiB.
 pub fn runs_are_saved_while_they_go_on()
     ensures document { save_answer clock (saving 12 42 2 [])
         ≡ done (codes "model CLOCK;\nvar N : 0..3 clip = 0;\nwatch N;\nvertex RUN {\n  set N := N + 1;\n  schedule RUN after 5;\n}\nend\n"
@@ -82,8 +85,8 @@ pub fn runs_are_saved_while_they_go_on()
         ≡ Refused refusals.Finished (codes "sigma: run finished\n") }
 {}
 
-/// `resume` refuses a stop time below the clock first, and then more than 2^40 events in all. Else it answers what `run` would from
-/// there on.
+/// `resume` refuses a stop time below the clock first, and then more than 2^40 events in all. Else
+/// it answers what `run` would from there on.
 pub fn resuming_is_answered()
     ensures whole { resume_answer clock saved_clock 12 100
         ≡ Given ends.Done (codes "at 5 N=2\nat 10 N=3\nstopped 12\n") }
@@ -103,8 +106,8 @@ pub fn resuming_is_answered()
         ≡ Refused refusals.BadStart (codes "sigma: stop time below clock 5\n") }
 {}
 
-/// A saved run has room for its pending events at least. What is pending and what the next event schedules are together more than
-/// there is room for, or not.
+/// A saved run has room for its pending events at least. What is pending and what the next event
+/// schedules are together more than there is room for, or not.
 pub fn saved_runs_have_room_for_themselves()
     ensures no_room_asked { ResumedExceedsRoom clock (with_many_pending 3) (resuming 12 1 0) }
     ensures too_little_asked { ResumedExceedsRoom clock (with_many_pending 3) (resuming 12 1 3) }

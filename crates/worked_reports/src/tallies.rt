@@ -8,15 +8,16 @@ ghost use Rattle.tally_report.specs.declared.run_tally.RunEnd.TheVariants as end
 ghost use Rattle.tally_report.specs.CellCourse.{cells_noted, value_noted, course, span_of, area_of};
 ghost use Rattle.tally_report.specs.Tallying.{CellAt, VertexAt, items_reported, occurrences, run_end, end_time, tally_of};
 ghost use Rattle.worked_reports.specs.Gauge.{gauge, gauged};
-ghost use Rattle.worked_reports.specs.GaugeRuns.{from, spanning, cell, no_value, gauge_notes, gauge_seen, told};
+ghost use Rattle.worked_reports.specs.GaugeRuns.{from, spanning, cell, no_value, gauge_notes, gauge_seen, tally_with};
 
-/// There is an item for each cell of each watched variable and for each watched vertex, in the order of the watch list, also for an
-/// array of one cell. A note's values are those of the watched variables alone.
+/// There is an item for each cell of each watched variable and for each watched vertex, in the
+/// order of the watch list, also for an array of one cell. A note's values are those of the watched
+/// variables alone.
 pub fn items_are_those_watched()
     ensures all { items_reported gauge
         ≡ VertexAt 0 ∷ CellAt 1 0 ∷ CellAt 1 1 ∷ CellAt 2 0 ∷ VertexAt 3 ∷ CellAt 4 0 ∷ [] }
     ensures nothing { items_reported (record gauge { watch = [] }) ≡ [] }
-    ensures cells_behind_a_vertex { cells_noted gauge.watch
+    ensures cells_after_a_vertex { cells_noted gauge.watch
         (gauged (pos 5) (pos 1) (pos 2) (pos 7)) 1 ≡ pos 5 ∷ pos 1 ∷ [] }
     ensures cells_further_on { cells_noted gauge.watch (gauged (pos 5) (pos 1) (pos 2) (pos 7)) 4
         ≡ pos 7 ∷ [] }
@@ -64,7 +65,8 @@ pub fn courses_have_areas()
         (from 0 (pos 3) ∷ from 4 (negsuc 1) ∷ from 5 (pos 7) ∷ from 9 (pos 1) ∷ []) 15 ≡ pos 44 }
 {}
 
-/// An event counts by its place in the watch list, once for each `on` note, also where it comes twice at one time.
+/// An event counts by its place in the watch list, once for each `on` note, also where it comes
+/// twice at one time.
 pub fn occurrences_are_counted()
     ensures first { occurrences 0 gauge_notes ≡ 3 }
     ensures other { occurrences 3 gauge_notes ≡ 1 }
@@ -72,8 +74,8 @@ pub fn occurrences_are_counted()
     ensures nothing_noted { occurrences 0 [] ≡ 0 }
 {}
 
-/// A run ends with its end's time, at the stop time, at its fault's time or, where its budget is spent, at the time of its last note of
-/// either kind, which is 0 where there is none.
+/// A run ends with its end's time, at the stop time, at its fault's time or, where its budget is
+/// spent, at the time of its last note of either kind, which is 0 where there is none.
 pub fn runs_end_at_a_time()
     ensures ended { (time : ℕ) → run_end (Ended time) ≡ ends.Ended }
     ensures stopped { run_end Stopped ≡ ends.Stopped }
@@ -82,8 +84,8 @@ pub fn runs_end_at_a_time()
     ensures time_of_the_end { end_time 20 gauge_notes (Ended 9) ≡ 9 }
     ensures stop_time { end_time 20 gauge_notes Stopped ≡ 20 }
     ensures time_of_the_fault { end_time 20 gauge_notes (Faulted 8 faults.RangeOutside) ≡ 8 }
-    ensures behind_an_on_note { end_time 20 gauge_notes Going ≡ 7 }
-    ensures behind_an_at_note { end_time 20 (On 2 0 [] ∷ At 3 [] ∷ []) Going ≡ 3 }
+    ensures after_an_on_note { end_time 20 gauge_notes Going ≡ 7 }
+    ensures after_an_at_note { end_time 20 (On 2 0 [] ∷ At 3 [] ∷ []) Going ≡ 3 }
     ensures on_notes_alone { end_time 20 (On 2 0 [] ∷ On 5 0 [] ∷ []) Going ≡ 5 }
     ensures no_note { end_time 20 [] Going ≡ 0 }
 {}
@@ -91,27 +93,27 @@ pub fn runs_end_at_a_time()
 /// The whole tally of a run: areas go up to the run's time.
 pub fn runs_have_tallies()
     ensures stopped { tally_of gauge 10 (gauge_seen Stopped)
-        ≡ told ends.Stopped 10
+        ≡ tally_with ends.Stopped 10
         (items.Count 3 ∷ cell (pos 0) (pos 5) (pos 0) (pos 15)
         ∷ cell (negsuc 0) (pos 1) (negsuc 0) (negsuc 4) ∷ cell (pos 2) (pos 6) (pos 4) (pos 30)
         ∷ items.Count 1 ∷ cell (pos 7) (pos 8) (pos 8) (pos 53) ∷ []) }
     ensures ended { tally_of gauge 10 (gauge_seen (Ended 7))
-        ≡ told ends.Ended 7
+        ≡ tally_with ends.Ended 7
         (items.Count 3 ∷ cell (pos 0) (pos 5) (pos 0) (pos 15)
         ∷ cell (negsuc 0) (pos 1) (negsuc 0) (negsuc 1) ∷ cell (pos 2) (pos 6) (pos 4) (pos 18)
         ∷ items.Count 1 ∷ cell (pos 7) (pos 8) (pos 8) (pos 29) ∷ []) }
     ensures faulted { tally_of gauge 10 (gauge_seen (Faulted 8 faults.Overflow))
-        ≡ told ends.Fault 8
+        ≡ tally_with ends.Fault 8
         (items.Count 3 ∷ cell (pos 0) (pos 5) (pos 0) (pos 15)
         ∷ cell (negsuc 0) (pos 1) (negsuc 0) (negsuc 2) ∷ cell (pos 2) (pos 6) (pos 4) (pos 22)
         ∷ items.Count 1 ∷ cell (pos 7) (pos 8) (pos 8) (pos 37) ∷ []) }
     ensures spent { tally_of gauge 10 (gauge_seen Going)
-        ≡ told ends.Budget 7
+        ≡ tally_with ends.Budget 7
         (items.Count 3 ∷ cell (pos 0) (pos 5) (pos 0) (pos 15)
         ∷ cell (negsuc 0) (pos 1) (negsuc 0) (negsuc 1) ∷ cell (pos 2) (pos 6) (pos 4) (pos 18)
         ∷ items.Count 1 ∷ cell (pos 7) (pos 8) (pos 8) (pos 29) ∷ []) }
     ensures nothing_noted { tally_of gauge 10 (record { history = []; standing = Stopped })
-        ≡ told ends.Stopped 10
+        ≡ tally_with ends.Stopped 10
         (items.Count 0 ∷ no_value (pos 0) ∷ no_value (pos 0) ∷ no_value (pos 0) ∷ items.Count 0
         ∷ no_value (pos 0) ∷ []) }
 {}

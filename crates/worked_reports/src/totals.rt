@@ -5,9 +5,10 @@ ghost use Rattle.tally_report.specs.declared.item.Item.TheVariants as items;
 ghost use Rattle.tally_report.specs.declared.run_tally.RunEnd.TheVariants as ends;
 ghost use Rattle.tally_report.specs.Totalling.{spans_joined, item_added, items_added, no_totals, with_run, totals_of};
 ghost use Rattle.worked_reports.specs.Gauge.{gauge};
-ghost use Rattle.worked_reports.specs.GaugeRuns.{spanning, cell, no_value, told, totalled};
+ghost use Rattle.worked_reports.specs.GaugeRuns.{spanning, cell, no_value, tally_with, totalled};
 
-/// The least and the greatest value of both, whichever has them, and the last one of the later; a run without values adds none.
+/// The least and the greatest value of both, whichever has them, and the last one of the later; a
+/// run without values adds none.
 pub fn spans_are_joined()
     ensures none { spans_joined None None ≡ None }
     ensures first_alone { spans_joined (Some (spanning (pos 1) (pos 5) (pos 3))) None
@@ -42,13 +43,13 @@ pub fn runs_are_totalled()
     ensures of_none { totals_of gauge [] ≡ no_totals gauge }
     ensures one_more { with_run
         (totalled 4 (items.Count 3 ∷ cell (pos 1) (pos 5) (pos 3) (pos 20) ∷ []))
-        (told ends.Fault 7 (items.Count 2 ∷ cell (pos 0) (pos 1) (pos 0) (pos 6) ∷ []))
+        (tally_with ends.Fault 7 (items.Count 2 ∷ cell (pos 0) (pos 1) (pos 0) (pos 6) ∷ []))
         ≡ totalled 5 (items.Count 5 ∷ cell (pos 0) (pos 5) (pos 0) (pos 26) ∷ []) }
     ensures of_two { totals_of gauge
-        (told ends.Stopped 9
+        (tally_with ends.Stopped 9
         (items.Count 1 ∷ cell (pos 1) (pos 2) (pos 1) (pos 3) ∷ cell (pos 4) (pos 5) (pos 4) (pos 6)
         ∷ no_value (pos 0) ∷ items.Count 7 ∷ cell (pos 8) (pos 8) (pos 8) (pos 9) ∷ [])
-        ∷ told ends.Budget 2
+        ∷ tally_with ends.Budget 2
         (items.Count 10 ∷ cell (pos 0) (pos 1) (pos 0) (pos 30) ∷ no_value (pos 0)
         ∷ cell (pos 3) (pos 3) (pos 3) (pos 60) ∷ items.Count 70
         ∷ cell (pos 9) (pos 9) (pos 9) (pos 90) ∷ []) ∷ [])

@@ -16,7 +16,8 @@ pub fn models_have_sizes()
     ensures without_feed { without_feed (codes "stopped 20\n") ≡ codes "stopped 20" }
 {}
 
-/// A step counts that is made up to the stop time and within the budget, also the last one where that faults.
+/// A step counts that is made up to the stop time and within the budget, also the last one where
+/// that faults.
 pub fn steps_are_counted()
     ensures up_to_the_stop_time { steps_of_run clock 42 [] 12 100 ≡ 3 }
     ensures at_the_stop_time { steps_of_run clock 42 [] 10 100 ≡ 3 }
@@ -28,8 +29,8 @@ pub fn steps_are_counted()
     ensures without_it { steps_of_run strict_clock 42 [] 100 3 ≡ 3 }
 {}
 
-/// How each run ends, how many steps it made, and how many notes there are: those of the original first, and the number of
-/// applications between the sizes and the runs.
+/// How each run ends, how many steps it made, and how many notes there are: those of the original
+/// first, and the number of applications between the sizes and the runs.
 pub fn trials_have_summaries()
     ensures of_a_run { run_line (codes "original") clock 42 12 100
         ≡ codes "original stopped 12 events 3 notes 3\n" }
