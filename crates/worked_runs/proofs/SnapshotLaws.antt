@@ -1,27 +1,22 @@
 -- A snapshot's text as computed, and by its grammar.
-use Rattle.std.proofs.Common.{◌≡◌, ℕ, true, List, refl, subst}
+use Rattle.std.proofs.Common.{◌≡◌, ℕ, List, refl, subst}
 use Rattle.std.specs.Prelude.{Some, Result, Ok, Err}
 use Rattle.model_core.specs.Text.Lexing.{Lexeme, tokens_of}
 use Rattle.model_core.specs.Text.FirstWrong.{wrong_place}
-use Rattle.model_core.specs.Text.Language.{signed_format}
-use Rattle.model_core.specs.Text.SnapshotGrammar.{WrittenSnapshot, stream_format, value_format, noted_format, exact_format, carried_format, carries_format, pending_format, snapshot_format, IsNoSnapshotAt}
-use Rattle.text_laws.specs.FirstTokens.{fine}
+use Rattle.model_core.specs.Text.SnapshotGrammar.{WrittenSnapshot, snapshot_format, IsNoSnapshotAt}
 use Rattle.text_laws.specs.FormatReader.{Parse, and_next, whole_read}
-use Rattle.text_laws.specs.LanguageReader.{level_lookahead, language_reader}
+use Rattle.text_laws.specs.LanguageReader.{language_reader}
 use Rattle.text_laws.proofs.Formats.TextLaws.{all-is_wrong}
 use Rattle.worked_runs.specs.GrammarTexts.{place_stuck}
 use Rattle.worked_runs.specs.SnapshotTexts.{IsNoSnapshotText, snapshot_stuck}
-
-one_token_decides : fine level_lookahead snapshot_format ≡ true
-unfolding level_lookahead signed_format stream_format value_format noted_format exact_format carried_format carries_format pending_format snapshot_format
-one_token_decides = refl
+use Rattle.text_laws.proofs.Formats.OneTokenDecides.{snapshot-fine}
 
 abbrev snapshot_parse : List Lexeme → Parse WrittenSnapshot
 snapshot_parse tokens = and_next whole_read (language_reader snapshot_format tokens)
 
 stuck_at : (text : List ℕ) (tokens : List Lexeme) (at : ℕ) (r : Parse WrittenSnapshot) → snapshot_parse tokens ≡ r → place_stuck text r ≡ Some at → IsNoSnapshotAt text tokens at
 stuck_at text tokens at (Ok r) same e = absurd cc
-stuck_at text tokens at (Err rest) same e = let is : wrong_place text rest ≡ at = cc in subst (λ k. IsNoSnapshotAt text tokens k) is (all-is_wrong snapshot_format one_token_decides text tokens rest same)
+stuck_at text tokens at (Err rest) same e = let is : wrong_place text rest ≡ at = cc in subst (λ k. IsNoSnapshotAt text tokens k) is (all-is_wrong snapshot_format snapshot-fine text tokens rest same)
 
 pub no_snapshot : {text : List ℕ} {at : ℕ} → snapshot_stuck text (tokens_of text) ≡ Some at → IsNoSnapshotText text at
 no_snapshot {text} {at} e = go (tokens_of text) refl e
