@@ -28,7 +28,7 @@ pub struct Answer<'a> {
 }
 
 /// Nothing but a status and its line.
-pub fn told(status: Status, errors: &[u8]) -> Answer<'_> {
+pub fn refusal(status: Status, errors: &[u8]) -> Answer<'_> {
     Answer {
         status,
         output: b"",
@@ -45,18 +45,29 @@ pub fn done(output: &[u8]) -> Answer<'_> {
     }
 }
 
-/// What was seen of a call: whether it gave the wanted answer, and how often it called the input, the output and the error
-/// output.
+/// What was seen of a call: whether it gave the wanted answer, and how often it called the input,
+/// the output and the error output.
 #[derive(Clone, Copy, Debug, PartialEq, Eq)]
 pub struct Seen {
     pub is_wanted: bool,
     pub reads: u64,
     pub writes: u64,
-    pub tells: u64,
+    pub complaints: u64,
 }
 
-/// What is seen of the program with these words and this text, which is handed out in pieces of 7 bytes. The output takes
-/// one byte at a write, and the error output a line.
+/// The status of the program over these devices.
+fn ended(
+    alloc: Global,
+    words: &[String],
+    input: &mut MemorySource,
+    output: &mut MemorySink,
+    errors: &mut MemorySink,
+) -> Status {
+    sigma(alloc, words, input, output, errors)
+}
+
+/// What is seen of the program with these words and this text, which is handed out in pieces of 7
+/// bytes. The output takes one byte at a write, and the error output a line.
 pub fn run(
     alloc: Global,
     words: &[String],
@@ -67,14 +78,14 @@ pub fn run(
     let mut input = MemorySource::new(Text::from_vec(text), 7, List::of_one(alloc, failing.read)?);
     let mut output = MemorySink::begin(alloc, 100_000, 1, List::of_one(alloc, failing.write)?)?;
     let mut errors = MemorySink::begin(alloc, 1_000, 1_000, List::of_one(alloc, failing.error)?)?;
-    let status = sigma(alloc, words, &mut input, &mut output, &mut errors);
+    let status = ended(alloc, words, &mut input, &mut output, &mut errors);
     Ok(Seen {
         is_wanted: status == wanted.status
             && output.written() == wanted.output
             && errors.written() == wanted.errors,
         reads: input.calls(),
         writes: output.calls(),
-        tells: errors.calls(),
+        complaints: errors.calls(),
     })
 }
 

@@ -1,5 +1,5 @@
-//! How a call of the program may end on small inputs and outputs, and how it never ends: the table of statuses on examples.
-//! The clauses are theorems. The functions that carry them do nothing.
+//! How a call of the program may end on small inputs and outputs, and how it never ends: the table
+//! of statuses on examples. The clauses are theorems. The functions that carry them do nothing.
 
 ghost use Rattle.std.specs.Prelude.{◌≡◌, ◌+◌, ◌≤◌, ℕ, pos, true, false, List, [], ◌∷◌, codes, drop, take, length, Some};
 ghost use Rattle.sig_base.specs.declared.limits.TheConstants.{TEXT_MAX};
@@ -116,8 +116,9 @@ pub fn calls_never_end_so()
         (input_of (drop (TEXT_MAX + 2) text) 0) o p e f → ⊥ }
 {}
 
-/// The other statuses: nothing is written where a text is refused, no device fails where that isn't the status, and what is
-/// done, or written up to a fault or a budget, is finished and leaves the error output alone.
+/// The other statuses: nothing is written where a text is refused, no device fails where that isn't
+/// the status, and what is done, or written up to a fault or a budget, is finished and leaves the
+/// error output alone.
 pub fn no_status_ends_otherwise()
     ensures done_but_read_failed { (words : List (List ℕ)) (text rest : List ℕ) (o p e f : Outlet)
         → EndsSo statuses.Done words (input_of text 0) (input_of rest 1) o p e f → ⊥ }

@@ -1,15 +1,15 @@
-//! Devices that fail at one call, whichever that is: what is answered, and that no call is made on a device after the one that
-//! failed.
+//! Devices that fail at one call, whichever that is: what is answered, and that no call is made on
+//! a device after the one that failed.
 
-use crate::calls::{Answer, Failing, SOUND, Seen, called, done, front, told};
-use crate::models::{CLOCK, CLOCK_SAVED, ONE, ONE_DOCUMENT, ONE_WRITTEN};
+use crate::calls::{Answer, Failing, SOUND, Seen, called, done, front, refusal};
+use crate::models::{BANK, CLOCK, CLOCK_SAVED, ONE, ONE_DOCUMENT, ONE_WRITTEN};
 use sig_base::NoMemory;
 use sigma_top::Status;
 use std::alloc::Global;
 use std::test::*;
 
-/// A job over devices that don't fail: its words, its text and what it writes. It reads in pieces of 7 bytes, and once more to
-/// find the end. It writes byte by byte, and then finishes the output.
+/// A job over devices that don't fail: its words, its text and what it writes. It reads in pieces
+/// of 7 bytes, and once more to find the end. It writes byte by byte, and then finishes the output.
 struct Job {
     line: &'static str,
     text: &'static [u8],
@@ -19,9 +19,16 @@ struct Job {
 }
 
 /// Texts of 106, 205 and 178 bytes; of a trial nothing is read.
-const JOBS: [Job; 7] = [
+const JOBS: [Job; 9] = [
     Job {
         line: "run --until 12 --seed 42 --events 1000",
+        text: CLOCK,
+        written: b"at 0 N=1\nat 5 N=2\nat 10 N=3\nstopped 12\n",
+        reads: 17,
+        writes: 40,
+    },
+    Job {
+        line: "run --seed 42 --events 1000 --until 12",
         text: CLOCK,
         written: b"at 0 N=1\nat 5 N=2\nat 10 N=3\nstopped 12\n",
         reads: 17,
@@ -56,6 +63,13 @@ const JOBS: [Job; 7] = [
         writes: 168,
     },
     Job {
+        line: "trial --seed 42 --vertices 2 --until 20 --events 100",
+        text: BANK,
+        written: b"original vertices 2 variables 9 edges 3\nreduced vertices 2 variables 2 edges 4\napplications 2\noriginal stopped 20 events 8 notes 1\nreduced stopped 20 events 7 notes 1\n",
+        reads: 0,
+        writes: 168,
+    },
+    Job {
         line: "save --until 12 --seed 42 --events 2",
         text: CLOCK,
         written: CLOCK_SAVED,
@@ -84,7 +98,7 @@ fn seen_of(
 /// What is seen of the job where this read fails.
 fn with_failing_read(alloc: Global, job: &Job, read: u64) -> Result<Seen, NoMemory> {
     let failing = Failing { read, ..SOUND };
-    let wanted = told(Status::ReadFault, b"sigma: cannot read\n");
+    let wanted = refusal(Status::ReadFault, b"sigma: cannot read\n");
     seen_of(alloc, job, failing, wanted)
 }
 
@@ -96,15 +110,16 @@ fn a_failed_read_is_the_last(rt: HostRuntime) -> Result<(), Fail> {
                 is_wanted: true,
                 reads: read,
                 writes: 0,
-                tells: 1,
+                complaints: 1,
             };
-            assert_eq!(rt; with_failing_read(rt.alloc(), job, read)?, last);
+            assert!(rt; with_failing_read(rt.alloc(), job, read)? == last);
         }
     }
     Ok(())
 }
 
-/// What is seen of the job where this write fails, or at the last number the call that finishes the output.
+/// What is seen of the job where this write fails, or at the last number the call that finishes the
+/// output.
 fn with_failing_write(alloc: Global, job: &Job, write: u64) -> Result<Seen, NoMemory> {
     let failing = Failing { write, ..SOUND };
     let wanted = Answer {
@@ -123,9 +138,9 @@ fn a_failed_write_is_the_last(rt: HostRuntime) -> Result<(), Fail> {
                 is_wanted: true,
                 reads: job.reads,
                 writes: write,
-                tells: 1,
+                complaints: 1,
             };
-            assert_eq!(rt; with_failing_write(rt.alloc(), job, write)?, last);
+            assert!(rt; with_failing_write(rt.alloc(), job, write)? == last);
         }
     }
     Ok(())
@@ -144,12 +159,9 @@ fn no_call_is_made_behind_the_last(rt: HostRuntime) -> Result<(), Fail> {
             is_wanted: true,
             reads: job.reads,
             writes: job.writes,
-            tells: 0,
+            complaints: 0,
         };
-        assert_eq!(rt;
-            seen_of(rt.alloc(), job, failing, done(job.written))?,
-            whole
-        );
+        assert!(rt; seen_of(rt.alloc(), job, failing, done(job.written))? == whole);
     }
     Ok(())
 }

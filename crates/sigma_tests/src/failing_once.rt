@@ -1,5 +1,5 @@
-//! An output that fails at one call and is sound at each other one: no call is made on it after the one that failed, though
-//! bytes are left in the buffer.
+//! An output that fails at one call and is sound at each other one: no call is made on it after the
+//! one that failed, though bytes are left in the buffer.
 
 use sig_base::{StdSink, StdSource};
 use sigma_top::buffered;
@@ -39,7 +39,8 @@ impl Write for FailsOnce {
     }
 }
 
-/// A clock whose history up to 1,000 has 13,918 bytes. Its first lines fill the buffer of 8,192 bytes.
+/// A clock whose history up to 1,000 has 13,918 bytes. Its first lines fill the buffer of 8,192
+/// bytes.
 const CLOCK: &[u8] =
     b"model CLOCK; var N : 0..9999 = 1000; watch N; vertex RUN { set N := N + 1; schedule RUN after 1; } end";
 
@@ -52,8 +53,8 @@ fn words(alloc: Global) -> Result<Vec<String>, AllocError> {
     Ok(words)
 }
 
-/// The run over an output that fails at this call, or never at the call 0: the exit status, the number of calls on the output,
-/// and how many bytes it took.
+/// The run over an output that fails at this call, or never at the call 0: the exit status, the
+/// number of calls on the output, and how many bytes it took.
 fn run_over(alloc: Global, failing: u32) -> io::Result<(ExitCode, u32, usize)> {
     let device = FailsOnce {
         failing,

@@ -1,16 +1,11 @@
-//! Tests of what no clause says of the program, through its top call; its table of statuses on examples; and what its promises give.
+//! Tests of what no clause says of the program, through its top call; its table of statuses on
+//! examples; and what its promises give.
 #![tactic(auto)]
 
 #[cfg(test)]
 mod answers;
 #[cfg(test)]
 mod calls;
-#[cfg(test)]
-mod command_lines;
-#[cfg(test)]
-mod documents;
-#[cfg(test)]
-mod drawn_delays;
 mod endings;
 #[cfg(test)]
 mod error_output;
@@ -19,29 +14,13 @@ mod failing_devices;
 #[cfg(test)]
 mod failing_once;
 #[cfg(test)]
-mod histories;
-#[cfg(test)]
-mod large_inputs;
-#[cfg(test)]
 mod models;
 #[cfg(test)]
 mod places;
 #[cfg(test)]
 mod printed_and_reduced;
 mod promises;
-#[cfg(test)]
-mod reductions;
-#[cfg(test)]
-mod replications;
-#[cfg(test)]
-mod rewritten_models;
-#[cfg(test)]
-mod saved_runs;
-#[cfg(test)]
-mod trials;
 mod two_calls;
-#[cfg(test)]
-mod versions;
 
 pub use endings::{calls_end_so, calls_never_end_so, no_status_ends_otherwise};
 pub use promises::promises_are_of_what_is_written;

@@ -1,49 +1,11 @@
-//! The byte at which a text goes wrong, also where a text is cut off.
+//! The byte at which a text that is cut off goes wrong.
 
-use crate::calls::{SOUND, called, front, told};
+use crate::calls::{SOUND, called, front, refusal};
 use crate::models::{BANK, CLOCK_SAVED, ONE_DOCUMENT};
 use sig_base::{NoMemory, put_bytes, put_number};
 use sigma_top::Status;
 use std::alloc::Global;
 use std::test::*;
-
-/// Texts that spell no model, each with its line.
-const REFUSED: [(&[u8], &[u8]); 10] = [
-    (b"model", b"sigma: byte 5: unexpected\n"),
-    (b"model model;", b"sigma: byte 6: unexpected\n"),
-    (b"# model", b"sigma: byte 7: unexpected\n"),
-    (b"model ; $", b"sigma: byte 8: bad byte\n"),
-    (b"model M; var X : 0.5 = 0;", b"sigma: byte 18: bad byte\n"),
-    (
-        b"model M; vertex A { schedule A after ; } end",
-        b"sigma: byte 37: unexpected\n",
-    ),
-    (
-        b"model M; vertex A { } end end",
-        b"sigma: byte 26: unexpected\n",
-    ),
-    (
-        b"model M; vertex A { set X := 1 < 2 < 3; } end",
-        b"sigma: byte 35: unexpected\n",
-    ),
-    (
-        b"model M; vertex A { cancel all A(1); } end",
-        b"sigma: byte 32: unexpected\n",
-    ),
-    (
-        b"model M; vertex A { urgent A after 0; } end",
-        b"sigma: byte 29: unexpected\n",
-    ),
-];
-
-#[test]
-fn texts_are_refused_where_they_go_wrong(rt: HostRuntime) -> Result<(), Fail> {
-    for (text, line) in REFUSED {
-        let refused = told(Status::Refused, line);
-        assert!(rt; called(rt.alloc(), "check", text, SOUND, refused)?.is_wanted);
-    }
-    Ok(())
-}
 
 const BAD_BYTE: &[u8] = b": bad byte\n";
 
@@ -54,7 +16,8 @@ fn is_of_word(byte: u8) -> bool {
     byte.is_ascii_alphanumeric() || byte == b'_'
 }
 
-/// The byte at which the word or number begins that is the text's last one; the text's length where it ends in none.
+/// The byte at which the word or number begins that is the text's last one; the text's length where
+/// it ends in none.
 fn last_word(text: &[u8]) -> usize {
     let mut from = 0;
     for (at, byte) in text.iter().enumerate() {
@@ -65,9 +28,10 @@ fn last_word(text: &[u8]) -> usize {
     from
 }
 
-/// The byte and the message of the complaint where the text is cut off at this length. A reserved word that is cut short is a
-/// name. In these texts, whose names are in capitals, no name can be where a reserved word is, but for `false`. One point
-/// begins no token, and no colon may precede an equals sign. Any other front can go on, so that it goes wrong at its end.
+/// The byte and the message of the complaint where the text is cut off at this length. A reserved
+/// word that is cut short is a name. In these texts, whose names are in capitals, no name can be
+/// where a reserved word is, but for `false`. One point begins no token, and no colon may precede
+/// an equals sign. Any other front can go on, so that it goes wrong at its end.
 fn cut_off(text: &[u8], length: usize) -> (usize, &'static [u8]) {
     let left = front(text, length);
     let word = last_word(left);
@@ -84,12 +48,17 @@ fn cut_off(text: &[u8], length: usize) -> (usize, &'static [u8]) {
 }
 
 /// Whether the text is refused so where it is cut off at this length.
-fn is_told(alloc: Global, words: &str, text: &[u8], length: usize) -> Result<bool, NoMemory> {
+fn is_refused_there(
+    alloc: Global,
+    words: &str,
+    text: &[u8],
+    length: usize,
+) -> Result<bool, NoMemory> {
     let (at, what) = cut_off(text, length);
     let mut line = Vec::from_slice(alloc, b"sigma: byte ")?;
     put_number(&mut line, at as u64)?;
     put_bytes(&mut line, what)?;
-    let refused = told(Status::Refused, line.as_slice());
+    let refused = refusal(Status::Refused, line.as_slice());
     Ok(called(alloc, words, front(text, length), SOUND, refused)?.is_wanted)
 }
 
@@ -107,7 +76,7 @@ fn each_text_that_is_cut_off_is_refused_at_its_place(rt: HostRuntime) -> Result<
             let mut text = Vec::from_slice(rt.alloc(), version)?;
             put_bytes(&mut text, whole)?;
             for length in 0..text.len().saturating_sub(1) {
-                assert!(rt; is_told(rt.alloc(), words, text.as_slice(), length)?);
+                assert!(rt; is_refused_there(rt.alloc(), words, text.as_slice(), length)?);
             }
         }
     }

@@ -1,11 +1,16 @@
 //! Both calls of the headline over memory: what they write of one text.
 
 use crate::calls::words;
-use crate::models::{CHAIN, CHAIN_REDUCED};
 use answer_laws::print_and_reduce;
 use sig_base::{List, MemorySink, MemorySource, NoMemory, Text};
 use std::alloc::Global;
 use std::test::*;
+
+const CHAIN: &[u8] =
+    b"model CHAIN;\nvar N : 0..9 = 0;\nwatch N;\nvertex RUN {\n  urgent A;\n}\nvertex A {\n  set N := 1;\n  urgent B;\n}\nvertex B {\n  set N := 2;\n}\nend\n";
+
+const CHAIN_REDUCED: &[u8] =
+    b"model CHAIN;\nvar N : 0..9 = 0;\nwatch N;\nvertex RUN {\n  set N := 1;\n  set N := 2;\n}\nend\n";
 
 /// A source over these bytes, which hands out 7 at a time and never fails.
 fn source(alloc: Global, text: &[u8]) -> Result<MemorySource, NoMemory> {

@@ -1,5 +1,5 @@
-//! What the promises of a call give, job by job: what whoever has them knows of the bytes that were written.
-//! The clauses are theorems. The function that carries them does nothing.
+//! What the promises of a call give, job by job: what whoever has them knows of the bytes that were
+//! written. The clauses are theorems. The function that carries them does nothing.
 
 ghost use Rattle.std.specs.Prelude.{◌≡◌, ◌+◌, ◌≤◌, ℕ, true, false, List, [], ◌∷◌, codes};
 ghost use Rattle.sig_base.specs.declared.limits.TheConstants.{EVENTS_MAX};
@@ -22,8 +22,8 @@ ghost use Rattle.job_answers.specs.SavedAndResumed.{SavesTheRun};
 ghost use Rattle.sigma_top.specs.Promises.{IsOfAnswer, PrintsModel};
 ghost use Rattle.sigma_tests.specs.Devices.{PromisesSo, input_of, output_of};
 
-/// Each promise says of the very bytes that were written what its job is for. That of `resume` also holds where the run ends at
-/// a fault or at its budget.
+/// Each promise says of the very bytes that were written what its job is for. That of `resume` also
+/// holds where the run ends at a fault or at its budget.
 pub fn promises_are_of_what_is_written()
     ensures printed { (text out : List ℕ) → PromisesSo statuses.Done (codes "print" ∷ []) text out
         → PrintsModel text out }

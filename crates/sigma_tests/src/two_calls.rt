@@ -1,4 +1,5 @@
-//! The headline over two calls at work: what it says of any two models whose texts were written. The clause is a theorem.
+//! The headline over two calls at work: what it says of any two models whose texts were written.
+//! The clause is a theorem.
 
 ghost use Rattle.std.specs.Prelude.{◌++◌, List};
 ghost use Rattle.model_core.specs.EventGraph.{EventGraph};
@@ -10,8 +11,8 @@ ghost use Rattle.answer_laws.specs.PrintedAndReduced.{HasText, ShowTheSame};
 
 use answer_laws::canonical_texts_determine_models;
 
-/// Where `print` wrote the canonical text of a model, and `reduce` that of another one with a certificate after it, and both models
-/// have a text, these two are the same.
+/// Where `print` wrote the canonical text of a model, and `reduce` that of another one with a
+/// certificate after it, and both models have a text, these two are the same.
 pub fn written_models_are_the_same()
     ensures { (g h : EventGraph) (applications : List RuleApplication) → HasText g → HasText h
         → ShowTheSame (canonical g) (canonical h ++ certificate applications) → Same g h }
