@@ -62,8 +62,8 @@ before_slice = record {
       [];
 }
 
-abbrev pub behind_slice : EventGraph
-behind_slice = record {
+abbrev pub after_slice : EventGraph
+after_slice = record {
   name = codes "SLICE";
   variables = ranged (codes "O") 0 9 0 ∷ ranged (codes "C") 0 9 0 ∷ array 4 (ranged (codes "D") 0 9 0) ∷ [];
   tables = record { name = codes "T"; rows = record { value = pos 1; weight = 1 } ∷ [] } ∷ [];

@@ -1,4 +1,5 @@
-//! Which conditions are exclusive, comparison by comparison, and which urgent edges are plain or come singly.
+//! Which conditions are exclusive, comparison by comparison, and which urgent edges are plain or
+//! come singly.
 #![tactic(auto, unfolding(model_core::specs::Rules::BoundsTable::exact_bounds))]
 
 ghost use Rattle.std.specs.Prelude.{◌≡◌, ◌∷◌, [], pos, neg_ℤ, true, false, map, Some, None, is_some};
@@ -10,11 +11,12 @@ ghost use Rattle.worked_runs.specs.BoundedModel.{bounded, x, y, b};
 ghost use Rattle.worked_rules.specs.PartsAlike.{operators};
 ghost use Rattle.worked_rules.specs.UrgentModels.{compared_with, when_y_is, followed};
 
-/// Each comparison of Y with a number beside each with the same number, the next and the one before: `=`, `<>`, `<`, `<=`,
-/// `>` and `>=`.
-// `<>` with 2 beside `>` with 1 is met by 3 alone, which comes after the number of the first; beside `<` by the number before
-// it; and so the other way round. A number itself is what `=` and a far `<=` meet. A cell and the clock are compared as a
-// variable is: with itself, and not with a cell at another index or of another array. X, which is 0 to 3, is never 5.
+/// Each comparison of Y with a number beside each with the same number, the next and the one
+/// before: `=`, `<>`, `<`, `<=`, `>` and `>=`.
+// `<>` with 2 beside `>` with 1 is met by 3 alone, which comes after the number of the first;
+// beside `<` by the number before it; and so the other way round. A number itself is what `=` and a
+// far `<=` meet. A cell and the clock are compared as a variable is: with itself, and not with a
+// cell at another index or of another array. X, which is 0 to 3, is never 5.
 pub fn comparisons_exclude_one_another()
     ensures with_the_same { compared_with 1 1
         ≡ (false ∷ true ∷ true ∷ false ∷ true ∷ false ∷ [])
@@ -59,7 +61,8 @@ pub fn comparisons_exclude_one_another()
 {}
 
 /// A comparison has one of six operators, and on its right a number with a sign or without.
-// operators, in their order: `=` to `>=` alone; numbers: 7, -7, no second sign, no variable and no sum after a sign.
+// operators, in their order: `=` to `>=` alone; numbers: 7, -7, no second sign, no variable and no
+// sum after a sign.
 pub fn some_conditions_compare()
     ensures operators { map (λ op. is_some (comparison_of (Binary op y (whole 1)))) operators
         ≡ false ∷ false ∷ false ∷ false ∷ false ∷ false ∷ false ∷ true ∷ true ∷ true ∷ true ∷ true
@@ -85,9 +88,9 @@ pub fn one_condition_excludes_the_other()
 {}
 
 /// A plain urgent edge is the only urgent one, and its condition is the literal `true`.
-// in turn: after others that do the same later, and that cancel; two of them; one beside a conditional one, in both orders;
-// conditional alone, beside one that schedules in time; the literal `false`; a condition that always holds; none; and of
-// each kind that isn't urgent.
+// in turn: after others that do the same later, and that cancel; two of them; one beside a
+// conditional one, in both orders; conditional alone, beside one that schedules in time; the
+// literal `false`; a condition that always holds; none; and of each kind that isn't urgent.
 pub fn urgent_edges_are_plain()
     ensures places { map (λ edges. plain_urgent (event [] [] edges))
         ((schedule 1 (whole 0) ∷ plain_edge CancelNext 1 [] ∷ urgent 2 ∷ [])
@@ -105,8 +108,9 @@ pub fn urgent_edges_are_plain()
 {}
 
 /// Any two urgent edges of one vertex exclude one another.
-// in turn: one of each number; the first and the last of three don't; nor the second and the last; of one vertex and of
-// another they needn't; the second vertex counts too; an edge in time and one that cancels don't.
+// in turn: one of each number; the first and the last of three don't; nor the second and the last;
+// of one vertex and of another they needn't; the second vertex counts too; an edge in time and one
+// that cancels don't.
 pub fn urgent_edges_come_singly()
     ensures { map (λ (p, q). single_urgent (followed [] (event [] [] p ∷ event [] [] q ∷ [])))
         ((when_y_is 1 0 ∷ when_y_is 2 0 ∷ when_y_is 3 0 ∷ [], [])

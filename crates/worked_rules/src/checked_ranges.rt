@@ -8,9 +8,10 @@ ghost use Rattle.model_core.specs.Ranges.Narrowed.{IsNarrowed, with_ranges_if_sh
 ghost use Rattle.worked_runs.specs.NarrowModel.{range};
 ghost use Rattle.worked_rules.specs.RangedModels.{span, checked_model, with_two, long_checked};
 
-/// A range of a variable isn't empty and lies in the declared one, and is that one where the variable's range stays.
-// empty; below, above: each end; shorter: at each end, of the first vertex's parameter; both ends at once may be where the
-// declared ones are.
+/// A range of a variable isn't empty and lies in the declared one, and is that one where the
+/// variable's range stays.
+// empty; below, above: each end; shorter: at each end, of the first vertex's parameter; both ends
+// at once may be where the declared ones are.
 pub fn ranges_fit_variables()
     ensures one { FitsVariable checked_model 1 (span 9 9) }
     ensures whole { FitsVariable checked_model 1 (span 0 9) }

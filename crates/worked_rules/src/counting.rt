@@ -1,5 +1,5 @@
-//! The numbers that are kept of who uses a variable, by calls that count one change or one edge: they are those that the
-//! definitions of uses give.
+//! The numbers that are kept of who uses a variable, by calls that count one change or one edge:
+//! they are those that the definitions of uses give.
 
 ghost use Rattle.std.specs.Prelude.{◌≡◌, ◌<◌, cond, length, IfOk};
 ghost use Rattle.model_core.specs.Code.Views.{change_of, edge_of};
@@ -11,7 +11,8 @@ use sig_base::NoMemory;
 use std::alloc::Global;
 use use_analysis::UseCounts;
 
-/// Of one change each variable that it writes has one setter, and each that it reads one reader; the others have none.
+/// Of one change each variable that it writes has one setter, and each that it reads one reader;
+/// the others have none.
 pub fn one_change_counts(
     alloc: Global,
     model: &Model,

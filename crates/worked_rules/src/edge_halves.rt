@@ -1,4 +1,5 @@
-//! Prune, settle and drop, half by half: the first edge, what may fault, and how far vertices are reached.
+//! Prune, settle and drop, half by half: the first edge, what may fault, and how far vertices are
+//! reached.
 #![tactic(auto, unfolding(model_core::specs::Rules::BoundsTable::exact_bounds))]
 
 ghost use Rattle.std.specs.Prelude.{◌≡◌, ◌∷◌, [], true, false, map, Some, None};
@@ -9,9 +10,11 @@ ghost use Rattle.model_core.specs.Rules.Reached.{reached_marks, unreached};
 ghost use Rattle.model_core.specs.Rules.Drop.{drop_conditions, dropped};
 ghost use Rattle.worked_rules.specs.EdgeModels.{at_several_places, one_pruned, one_settled, led, led_alone, over_x, literally};
 
-/// The first edge that may be pruned, and the first that may be settled, by vertex and then by edge.
-// RUN has none of either: one that may be taken, one that is literally taken, one whose condition may fault; A has two to
-// prune, and one to settle between them; B has one of each at earlier places; without A's and B's there is none.
+/// The first edge that may be pruned, and the first that may be settled, by vertex and then by
+/// edge.
+// RUN has none of either: one that may be taken, one that is literally taken, one whose condition
+// may fault; A has two to prune, and one to settle between them; B has one of each at earlier
+// places; without A's and B's there is none.
 pub fn the_first_edge_is_taken()
     ensures prune { first_prune at_several_places ≡ Some (1, 1) }
     ensures settle { first_settle at_several_places ≡ Some (1, 2) }
@@ -22,8 +25,8 @@ pub fn the_first_edge_is_taken()
 {}
 
 /// Each condition of prune and of settle, edge by edge of two vertices, and beyond.
-// prune, RUN: may be taken; literal; always, if it doesn't fault; A: may be; never; always; never; then none. settle
-// likewise.
+// prune, RUN: may be taken; literal; always, if it doesn't fault; A: may be; never; always; never;
+// then none. settle likewise.
 pub fn edges_have_conditions()
     ensures prune_run { map (λ k. first_failed (prune_conditions at_several_places 0 k))
         (0 ∷ 1 ∷ 2 ∷ 3 ∷ []) ≡ Some 2 ∷ Some 2 ∷ Some 2 ∷ Some 1 ∷ [] }
@@ -37,9 +40,11 @@ pub fn edges_have_conditions()
     ensures settle_none { first_failed (settle_conditions at_several_places 3 0) ≡ Some 1 }
 {}
 
-/// Vertices are reached over edges of each kind, also those that are never taken, as far as they go.
-// RUN: the first; A: over an edge whose condition is `false`; B, C, D: each over one that cancels in another way, from the
-// vertex after it; SEEN: watched, and NEXT from there; FAR and LOST: though they lead to others, and to themselves.
+/// Vertices are reached over edges of each kind, also those that are never taken, as far as they
+/// go.
+// RUN: the first; A: over an edge whose condition is `false`; B, C, D: each over one that cancels
+// in another way, from the vertex after it; SEEN: watched, and NEXT from there; FAR and LOST:
+// though they lead to others, and to themselves.
 pub fn vertices_are_reached_as_far_as_edges_go()
     ensures marks { reached_marks led
         ≡ true ∷ false ∷ true ∷ true ∷ true ∷ true ∷ true ∷ true ∷ false ∷ [] }
@@ -47,8 +52,8 @@ pub fn vertices_are_reached_as_far_as_edges_go()
     ensures all { unreached led_alone ≡ [] }
 {}
 
-/// The list of a drop has all that can't be reached, and no other, in order; what stays is numbered anew, in edges and in
-/// the watch list.
+/// The list of a drop has all that can't be reached, and no other, in order; what stays is numbered
+/// anew, in edges and in the watch list.
 pub fn drops_list_all()
     ensures all { first_failed (drop_conditions led (1 ∷ 8 ∷ [])) ≡ None }
     ensures one_less { first_failed (drop_conditions led (1 ∷ [])) ≡ Some 2 }

@@ -1,4 +1,5 @@
-//! What conditions leave of ranges, by each comparison at both its ends, and bounds under what is left.
+//! What conditions leave of ranges, by each comparison at both its ends, and bounds under what is
+//! left.
 #![tactic(auto, unfolding(model_core::specs::Rules::BoundsTable::exact_bounds, model_core::specs::Rules::BoundsTable::least_of, model_core::specs::Rules::BoundsTable::greatest_of))]
 
 ghost use Rattle.std.specs.Prelude.{◌≡◌, ◌∷◌, [], pos, neg_ℤ, true, false, map};
@@ -13,11 +14,11 @@ ghost use Rattle.worked_runs.specs.BoundedModel.{bounded_by};
 ghost use Rattle.worked_runs.specs.NarrowModel.{range};
 ghost use Rattle.worked_rules.specs.RangedModels.{span, comparison, five_kinds, declared_ones, left_where, left_at, guarded, ten_over_x, equals_one, above_zero, equals_zero};
 
-/// Each comparison with a number leaves the numbers of the range for which it holds, and where it doesn't those for which it
-/// doesn't.
-// with 5, in the midst: both answers of each of the six; at the last number that leaves some, and the first that leaves
-// none, at which the range stays; far outside on the side where all are left; `<>` takes an end away, and nothing in the
-// midst.
+/// Each comparison with a number leaves the numbers of the range for which it holds, and where it
+/// doesn't those for which it doesn't.
+// with 5, in the midst: both answers of each of the six; at the last number that leaves some, and
+// the first that leaves none, at which the range stays; far outside on the side where all are left;
+// `<>` takes an end away, and nothing in the midst.
 pub fn comparisons_leave_ranges()
     ensures holding { map (λ op. left_at 0 true (comparison op 0 (whole 5)))
         (Below ∷ AtMost ∷ Above ∷ AtLeast ∷ Equal ∷ NotEqual ∷ [])
@@ -75,7 +76,8 @@ pub fn comparisons_take_up_what_is_left()
         ≡ span 0 9 ∷ span 0 9 ∷ span 0 9 ∷ span 0 9 ∷ span 0 9 ∷ span 0 9 ∷ [] }
 {}
 
-/// What is known of a variable that clips narrows it as any other, and it goes on to clip; an array isn't narrowed.
+/// What is known of a variable that clips narrows it as any other, and it goes on to clip; an array
+/// isn't narrowed.
 pub fn clipped_variables_are_refined()
     ensures scalar { refined (comparison Below 0 (whole 5)) true
         (clipped (bounded_by [] (pos 0) (pos 9)) ∷ [])
@@ -85,9 +87,11 @@ pub fn clipped_variables_are_refined()
         ≡ array 3 (clipped (bounded_by [] (pos 0) (pos 9))) ∷ [] }
 {}
 
-/// A comparison narrows the variable on its left alone, and only if this is a scalar of numbers and the right side a literal.
-// first: the others stay; a truth value, an array, its cell: nothing; the number first; a variable on the right; a sum on
-// the left; the clock on the right; an operator that compares nothing; a truth value by itself, a literal, and an `if`.
+/// A comparison narrows the variable on its left alone, and only if this is a scalar of numbers and
+/// the right side a literal.
+// first: the others stay; a truth value, an array, its cell: nothing; the number first; a variable
+// on the right; a sum on the left; the clock on the right; an operator that compares nothing; a
+// truth value by itself, a literal, and an `if`.
 pub fn other_conditions_leave_all()
     ensures the_variable { left_where true (comparison Below 1 (whole 2))
         ≡ span 0 9 ∷ range (neg_ℤ (pos 5)) (pos 1) ∷ span 0 1 ∷ span 0 9 ∷ span 4 4 ∷ [] }
@@ -107,10 +111,11 @@ pub fn other_conditions_leave_all()
         ≡ declared_ones ∷ declared_ones ∷ declared_ones ∷ declared_ones ∷ [] }
 {}
 
-/// `not` turns what is known; an `and` that is true and an `or` that is false narrow by both operands, the left one first; the
-/// others narrow nothing.
-// not: once, twice, and of what is false; both: of one variable, and of two; no `and` that is false, no `or` that is true,
-// no other operator; order: the left one leaves 0..4, of which the right one leaves nothing; within one another.
+/// `not` turns what is known; an `and` that is true and an `or` that is false narrow by both
+/// operands, the left one first; the others narrow nothing.
+// not: once, twice, and of what is false; both: of one variable, and of two; no `and` that is
+// false, no `or` that is true, no other operator; order: the left one leaves 0..4, of which the
+// right one leaves nothing; within one another.
 pub fn conditions_refine_together()
     ensures not { left_at 0 true (Not (comparison Below 0 (whole 5))) ≡ span 5 9 }
     ensures not_false { left_at 0 false (Not (comparison Below 0 (whole 5))) ≡ span 0 4 }
@@ -138,9 +143,11 @@ pub fn conditions_refine_together()
         ≡ span 3 6 }
 {}
 
-/// What is evaluated only where a condition is true, or false, has its bounds under what that leaves.
-// the right operand of `and` and of `or`, both branches of `if`; not the left operand, not of another operator, not where
-// the other answer leaves 0; a guard within a guard; and without guards none of it.
+/// What is evaluated only where a condition is true, or false, has its bounds under what that
+/// leaves.
+// the right operand of `and` and of `or`, both branches of `if`; not the left operand, not of
+// another operator, not where the other answer leaves 0; a guard within a guard; and without guards
+// none of it.
 pub fn parts_are_bounded_under_guards()
     ensures quiet { map (bounds_in guarded [])
         (Binary And above_zero (equals_one ten_over_x)
@@ -166,7 +173,8 @@ pub fn parts_are_bounded_under_guards()
         ∷ number_bounds (pos 0) (pos 9) true ∷ [] }
 {}
 
-/// Ranges replace the declared ones, each for the variable at its place; a variable that has none keeps its own.
+/// Ranges replace the declared ones, each for the variable at its place; a variable that has none
+/// keeps its own.
 pub fn other_ranges_are_taken()
     ensures given { map (bounds_in guarded (span 2 3 ∷ range (neg_ℤ (pos 1)) (pos 1) ∷ []))
         (Scalar 0 ∷ Scalar 1 ∷ Scalar 4 ∷ [])

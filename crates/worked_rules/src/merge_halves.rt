@@ -1,4 +1,5 @@
-//! Merge, half by half: each part of a condition fails alone, and the result has each part in its place.
+//! Merge, half by half: each part of a condition fails alone, and the result has each part in its
+//! place.
 #![tactic(auto, unfolding(model_core::specs::Rules::BoundsTable::exact_bounds))]
 
 ghost use Rattle.std.specs.Prelude.{◌≡◌, ◌∷◌, [], pos, map, Some, None, codes};
@@ -9,18 +10,20 @@ ghost use Rattle.worked_runs.specs.Building.{whole, set, draw, schedule, urgent,
 ghost use Rattle.worked_runs.specs.MergingModels.{giving};
 ghost use Rattle.worked_rules.specs.UrgentModels.{followed, first_event, both_events, in_four, run_then, sets_z, with_many_edges};
 
-/// Changes come in turn: those of the first, a `set` of what it gives, and those of the second; and edges: the others of the
-/// first, then those of the second. The first keeps its name and its parameters, and the second stays. Without a plain
-/// urgent edge nothing changes.
+/// Changes come in turn: those of the first, a `set` of what it gives, and those of the second; and
+/// edges: the others of the first, then those of the second. The first keeps its name and its
+/// parameters, and the second stays. Without a plain urgent edge nothing changes.
 pub fn merged_parts_come_in_turn()
     ensures both { merged (in_four first_event) 1 2 ≡ in_four both_events }
     ensures without_an_edge { merged (in_four first_event) 0 1 ≡ in_four first_event }
 {}
 
 /// The first four conditions, and the fifth.
-// 1: an edge to itself, and one to no vertex; 2: the second has one, of which two urgent edges are none; 3: two of any
-// vertex must be exclusive; 4: of the watched, the first may be; 5: each kind of cancelling edge of the first, also where it
-// isn't the last edge; one of another vertex may, and one of the first to another.
+// 1: an edge to itself, and one to no vertex; 2: the second has one, of which two urgent edges are
+// none; 3: two of any
+// vertex must be exclusive; 4: of the watched, the first may be; 5: each kind of cancelling edge of
+// the first, also where it isn't the last edge; one of another vertex may, and one of the first to
+// another.
 pub fn each_half_of_meeting_at_once_fails_alone()
     ensures itself { first_failed
         (merge_conditions (followed [] (event [] [] (urgent 0 ∷ []) ∷ [])) 0 0) ≡ Some 1 }
@@ -52,10 +55,12 @@ pub fn each_half_of_meeting_at_once_fails_alone()
         ≡ None }
 {}
 
-/// The sixth condition is about the other edges of the first, each of them, and what the second writes.
-// a value, a condition and a delay read what a change writes; the second of two does; what the plain edge carries may; an
-// edge of the second may; an edge may fault as the second of two; a drawn delay is refused, also of one number, and beside one
-// of the second, which may have one; draws of both may be; what is given may fault where nothing is watched.
+/// The sixth condition is about the other edges of the first, each of them, and what the second
+/// writes.
+// a value, a condition and a delay read what a change writes; the second of two does; what the
+// plain edge carries may; an edge of the second may; an edge may fault as the second of two; a
+// drawn delay is refused, also of one number, and beside one of the second, which may have one;
+// draws of both may be; what is given may fault where nothing is watched.
 pub fn each_other_edge_reads_nothing_written()
     ensures value { first_failed
         (merge_conditions
@@ -104,8 +109,9 @@ pub fn each_other_edge_reads_nothing_written()
 {}
 
 /// The seventh: where the first is watched, the second happens unseen.
-// a change writes what is watched, or another variable; an edge of the second may fault, in a value and in a delay; a change
-// may, the second of two; what is given may; each is none of it where the first isn't watched.
+// a change writes what is watched, or another variable; an edge of the second may fault, in a value
+// and in a delay; a change may, the second of two; what is given may; each is none of it where the
+// first isn't watched.
 pub fn watched_ones_are_followed_unseen()
     ensures writes { map (λ watch. first_failed (merge_conditions (run_then watch [] sets_z) 0 1))
         ((WatchedVertex 0 ∷ WatchedVariable 1 ∷ []) ∷ (WatchedVertex 0 ∷ WatchedVariable 0 ∷ [])

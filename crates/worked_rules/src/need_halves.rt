@@ -7,12 +7,12 @@ ghost use Rattle.model_core.specs.Rules.Conditions.{first_failed};
 ghost use Rattle.model_core.specs.Rules.Needed.{unneeded};
 ghost use Rattle.model_core.specs.Rules.Slice.{slice_conditions, sliced_change, sliced_edge, sliced};
 ghost use Rattle.worked_runs.specs.Building.{whole, at_variable, at_cell, set, draw, only_if, positive, plain_edge, schedule, one_over_zero, x_watched};
-ghost use Rattle.worked_rules.specs.NeedHalves.{four_clipped, taken_over, drawn_of, giving_edge, one_strict, before_slice, behind_slice};
+ghost use Rattle.worked_rules.specs.NeedHalves.{four_clipped, taken_over, drawn_of, giving_edge, one_strict, before_slice, after_slice};
 
 /// What is needed at once, by one of U, V, W and X each time.
-// nothing; a watched variable, after a vertex of another number; the first vertex's parameters, both, and not the second's;
-// what an edge cancels by its values, and not where it cancels the next or all; what conditions of each kind of edge read,
-// and delays, but no value; no drawn delay.
+// nothing; a watched variable, after a vertex of another number; the first vertex's parameters,
+// both, and not the second's; what an edge cancels by its values, and not where it cancels the next
+// or all; what conditions of each kind of edge read, and delays, but no value; no drawn delay.
 pub fn some_are_needed_at_once()
     ensures nothing { unneeded (four_clipped [] [] (taken_over) []) ≡ 0 ∷ 1 ∷ 2 ∷ 3 ∷ [] }
     ensures watched { unneeded (four_clipped (WatchedVertex 1 ∷ WatchedVariable 3 ∷ []) [] [] [])
@@ -37,9 +37,11 @@ pub fn some_are_needed_at_once()
         ≡ 0 ∷ 1 ∷ 2 ∷ 3 ∷ [] }
 {}
 
-/// A variable is needed where a store, an index or a value for it may fault: that of its own target alone.
-// a `set` of two: the value of the second, the store of the first, the index of the last, a value that stays; a draw: an
-// index; what an edge carries that schedules, in time and at once, and not where it cancels.
+/// A variable is needed where a store, an index or a value for it may fault: that of its own target
+/// alone.
+// a `set` of two: the value of the second, the store of the first, the index of the last, a value
+// that stays; a draw: an index; what an edge carries that schedules, in time and at once, and not
+// where it cancels.
 pub fn faults_are_needed_one_by_one()
     ensures second_value { unneeded
         (one_strict (Set (at_variable 0 ∷ at_variable 1 ∷ []) (whole 9 ∷ one_over_zero ∷ []) ∷ []))
@@ -66,9 +68,9 @@ pub fn faults_are_needed_one_by_one()
 {}
 
 /// What a needed variable is made of is needed, and what that is made of, as far as it goes.
-// U of V, V of W, W of X, in three changes of which the last makes U; from the midst on; of two targets each has its own
-// side; an index, of a `set` and of a draw; what is carried, by edges that schedule and by one that cancels by its values;
-// nothing by another target's side.
+// U of V, V of W, W of X, in three changes of which the last makes U; from the midst on; of two
+// targets each has its own side; an index, of a `set` and of a draw; what is carried, by edges that
+// schedule and by one that cancels by its values; nothing by another target's side.
 pub fn needed_ones_are_made_of_needed_ones()
     ensures chain { unneeded (four_clipped (WatchedVariable 0 ∷ []) [] taken_over []) ≡ [] }
     ensures from_the_midst { unneeded (four_clipped (WatchedVariable 2 ∷ []) [] taken_over [])
@@ -88,10 +90,11 @@ pub fn needed_ones_are_made_of_needed_ones()
         ≡ (0 ∷ 3 ∷ []) ∷ (0 ∷ 3 ∷ []) ∷ (0 ∷ 3 ∷ []) ∷ [] }
 {}
 
-/// What is drawn from the stream of a needed one is needed, wherever it is drawn; and where a delay is drawn from the
-/// stream.
-// before and after; through a third; of another stream; what is drawn twice, from two streams; a delay of the stream, and
-// of another; where one number alone can be drawn; of a delay that is never drawn.
+/// What is drawn from the stream of a needed one is needed, wherever it is drawn; and where a delay
+/// is drawn from the stream.
+// before and after; through a third; of another stream; what is drawn twice, from two streams; a
+// delay of the stream, and of another; where one number alone can be drawn; of a delay that is
+// never drawn.
 pub fn streams_are_needed_one_by_one()
     ensures before { unneeded
         (four_clipped x_watched [] (drawn_of 1 54 ∷ drawn_of 0 54 ∷ drawn_of 2 53 ∷ []) [])
@@ -135,14 +138,16 @@ pub fn slices_list_all()
         (slice_conditions (four_clipped (WatchedVariable 0 ∷ []) [] taken_over []) []) ≡ Some 1 }
 {}
 
-/// What is left of each part without one variable: those after it move up by one, and those ahead of it stay.
-// the watch list: a variable after it, a vertex, a variable ahead; parameters; a `set` of four, of which the first and the
-// last go with their sides; one that goes whole and one that stays; a draw that goes, and one into a cell, whose index is
-// numbered anew; values that edges carry, of each kind; a delay and a condition, of each form of expression; a drawn delay
-// and a table, which stay; edges with no values, with fewer, of the one variable and of the other, and to a vertex that takes
-// none.
+/// What is left of each part without one variable: those after it move up by one, and those ahead
+/// of it stay.
+// the watch list: a variable after it, a vertex, a variable ahead; parameters; a `set` of four, of
+// which the first and the last go with their sides; one that goes whole and one that stays; a draw
+// that goes, and one into a cell, whose index is numbered anew; values that edges carry, of each
+// kind; a delay and a condition, of each form of expression; a drawn delay and a table, which stay;
+// edges with no values, with fewer, of the one variable and of the other, and to a vertex that
+// takes none.
 pub fn parts_are_sliced()
-    ensures whole { sliced before_slice (1 ∷ []) ≡ behind_slice }
+    ensures whole { sliced before_slice (1 ∷ []) ≡ after_slice }
     ensures without_values { map (sliced_edge before_slice (true ∷ false ∷ true ∷ true ∷ []))
         (plain_edge Urgent 1 [] ∷ plain_edge CancelEqual 1 [] ∷ plain_edge Urgent 1 (whole 7 ∷ [])
         ∷ plain_edge CancelEqual 1 (whole 7 ∷ []) ∷ [])

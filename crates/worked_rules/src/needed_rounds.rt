@@ -10,8 +10,8 @@ ghost use Rattle.worked_runs.specs.NarrowModel.{range};
 ghost use Rattle.worked_rules.specs.RangedModels.{span, fed, takes_in, needing_all, ranges_of_all, growing_cell};
 
 /// A range grows at the end that the variable needs, and where it is late, to the declared end.
-// hull: none; the lower end, the upper one, both, neither; a range grows by what its own variable takes, and keeps; ends:
-// not late, late at the lower, the upper, both, neither.
+// hull: none; the lower end, the upper one, both, neither; a range grows by what its own variable
+// takes, and keeps; ends: not late, late at the lower, the upper, both, neither.
 pub fn ranges_grow()
     ensures hulls { map (hull (span 3 5))
         (None ∷ Some (span 1 4) ∷ Some (span 4 9) ∷ Some (span 1 9) ∷ Some (span 4 4) ∷ [])
@@ -29,7 +29,8 @@ pub fn ranges_grow()
 {}
 
 /// The ranges of truth values and of what the first vertex takes stay.
-// S: the first vertex takes it; B, F: a truth value, and an array of them; A, G: a number; P: another vertex takes it.
+// S: the first vertex takes it; B, F: a truth value, and an array of them; A, G: a number; P:
+// another vertex takes it.
 pub fn some_ranges_stay()
     ensures fixed { map (is_fixed needing_all) (0 ∷ 1 ∷ 2 ∷ 3 ∷ 4 ∷ 5 ∷ 6 ∷ [])
         ≡ true ∷ true ∷ true ∷ false ∷ false ∷ false ∷ false ∷ [] }
@@ -39,12 +40,13 @@ pub fn some_ranges_stay()
         (span 0 50 ∷ span 1 1 ∷ []) 1 ≡ span 1 1 }
 {}
 
-/// Each variable of a model gets the range that it needs: an array too, by what is known where an `or` is false, by what is
-/// carried where a condition can be true, and by no edge whose condition can't be, nor one that cancels.
-// 16th, 17th: the last round in which an end moves as far as it needs, at the lower end (D) and at the upper one (U), and
-// the first in which it goes to the declared one. A: what is set and what it begins with; G: what an `or` that is false
-// leaves; P: what the third edge carries, and not what the first does, nor the second; C: cut; O: what it begins with alone;
-// S, B, F: as declared.
+/// Each variable of a model gets the range that it needs: an array too, by what is known where an
+/// `or` is false, by what is carried where a condition can be true, and by no edge whose condition
+/// can't be, nor one that cancels.
+// 16th, 17th: the last round in which an end moves as far as it needs, at the lower end (D) and at
+// the upper one (U), and the first in which it goes to the declared one. A: what is set and what it
+// begins with; G: what an `or` that is false leaves; P: what the third edge carries, and not what
+// the first does, nor the second; C: cut; O: what it begins with alone; S, B, F: as declared.
 pub fn ranges_are_found()
     ensures first { after_rounds needing_all 0
         ≡ span 0 50 ∷ span 0 1 ∷ span 0 1 ∷ span 4 4 ∷ span 0 0 ∷ span 2 2 ∷ span 0 0 ∷ span 0 0
@@ -59,7 +61,8 @@ pub fn ranges_are_found()
     ensures found { IsInferred needing_all (ranges_of_all (neg_ℤ (pos 50)) 50 5) }
 {}
 
-/// A cell grows as a scalar does: by as much as it needs up to the 16th round, and in the 17th to the declared end.
+/// A cell grows as a scalar does: by as much as it needs up to the 16th round, and in the 17th to
+/// the declared end.
 pub fn cells_grow_in_rounds()
     ensures sixteenth { after_rounds growing_cell 16 ≡ span 0 16 ∷ [] }
     ensures seventeenth { after_rounds growing_cell 17 ≡ span 0 50 ∷ [] }

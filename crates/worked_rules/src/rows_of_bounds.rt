@@ -1,4 +1,5 @@
-//! The rows of the table of bounds, end by end, and which parts of an event are quiet, half by half.
+//! The rows of the table of bounds, end by end, and which parts of an event are quiet, half by
+//! half.
 #![tactic(auto, unfolding(model_core::specs::Rules::BoundsTable::exact_bounds, model_core::specs::Rules::BoundsTable::least_of, model_core::specs::Rules::BoundsTable::greatest_of))]
 
 ghost use Rattle.std.specs.Prelude.{◌≡◌, ◌∷◌, [], pos, neg_ℤ, true, false, map};
@@ -10,7 +11,8 @@ ghost use Rattle.worked_runs.specs.Building.{whole, minus, at_variable, at_cell,
 ghost use Rattle.worked_runs.specs.BoundedModel.{bounded, seen_bounds, numbers_in, perhaps_in, either_truth, only_true, only_false, x, y, b, least_number, over_x_is_1};
 ghost use Rattle.worked_rules.specs.BoundedParts.{two_or_three, by_signs, five_over_x, are_quiet, between_truths, x_and};
 
-/// Products and quotients go by all four pairs of ends: each is the least of one pair of signs, and the greatest of another.
+/// Products and quotients go by all four pairs of ends: each is the least of one pair of signs, and
+/// the greatest of another.
 // in turn: both above 0; the left below; the right below; both below.
 pub fn all_four_pairs_of_ends_count()
     ensures products { by_signs Multiply
@@ -25,9 +27,10 @@ pub fn all_four_pairs_of_ends_count()
 {}
 
 /// Each end alone may be moved, and each operand has its ends.
-// the lower end alone; 0 at the upper end of a divisor, and no 0 where it begins at 1; a quotient by 0 goes by the end that
-// is further from 0, on either side; a remainder where the numbers end at 0, by a number below 0, by 0 alone, by which
-// nothing but 0 would be left; the lesser and the greater of two, in both orders.
+// the lower end alone; 0 at the upper end of a divisor, and no 0 where it begins at 1; a quotient
+// by 0 goes by the end that is further from 0, on either side; a remainder where the numbers end at
+// 0, by a number below 0, by 0 alone, by which nothing but 0 would be left; the lesser and the
+// greater of two, in both orders.
 pub fn each_end_counts()
     ensures lower_end_moved { seen_bounds (Binary Subtract least_number x)
         ≡ perhaps_in (neg_ℤ (pos 9223372036854775808)) (neg_ℤ (pos 9223372036854775808)) }
@@ -113,7 +116,8 @@ pub fn comparisons_turn_at_ends()
         ≡ either_truth ∷ either_truth ∷ only_false ∷ only_false ∷ either_truth ∷ [] }
 {}
 
-/// Each operator between truth values: true, false and either on the left, and each of them on the right.
+/// Each operator between truth values: true, false and either on the left, and each of them on the
+/// right.
 pub fn truths_are_put_together()
     ensures and { between_truths And
         ≡ (only_true ∷ only_false ∷ either_truth ∷ []) ∷ (only_false ∷ only_false ∷ only_false ∷ [])
@@ -148,8 +152,8 @@ pub fn operands_may_not_be_looked_at()
 {}
 
 /// An `if` has the bounds of what may be taken.
-// numbers: each end of each branch; truth values: each of each branch; a branch that may fault, taken, perhaps taken and
-// never taken; a condition that may fault.
+// numbers: each end of each branch; truth values: each of each branch; a branch that may fault,
+// taken, perhaps taken and never taken; a condition that may fault.
 pub fn branches_are_taken()
     ensures numbers { map seen_bounds
         (If b x (whole 5) ∷ If b (whole 5) x ∷ If b y x ∷ If (Truth true) x (whole 5)
@@ -181,7 +185,8 @@ pub fn quiet_conditions_are_decided()
 {}
 
 /// A draw's bounds are the least and the greatest of its values, wherever these are in the table.
-// none; one; the least first, in the midst and last, the greatest last, first and in the midst; no table.
+// none; one; the least first, in the midst and last, the greatest last, first and in the midst; no
+// table.
 pub fn draws_have_bounds()
     ensures tables { map
         (λ values. rows_bounds (map (λ v. record { value = v; weight = 1 }) values))
@@ -196,8 +201,9 @@ pub fn draws_have_bounds()
 {}
 
 /// Which changes never fault.
-// in turn, `set`: an index that may fault though it lies inside; a value that may fault into a clipped variable; fewer
-// values, more values; of two, the first; a draw: beside the array, at its last cell, and one that clips at such an index.
+// in turn, `set`: an index that may fault though it lies inside; a value that may fault into a
+// clipped variable; fewer values, more values; of two, the first; a draw: beside the array, at its
+// last cell, and one that clips at such an index.
 pub fn parts_of_changes_are_quiet()
     ensures sets { map (quiet_change bounded)
         (Set (at_cell 4 (Binary Remainder (whole 1) x) ∷ []) (x ∷ [])
@@ -217,9 +223,9 @@ pub fn parts_of_changes_are_quiet()
 {}
 
 /// Which edges never fault.
-// a delay at 0 and below; one that may fault at 0 or above; drawn delays from 0 and from below, and from a table whose least
-// value is below 0 and in its second row; edges without one, of each kind, with a value that may fault and
-// without.
+// a delay at 0 and below; one that may fault at 0 or above; drawn delays from 0 and from below, and
+// from a table whose least value is below 0 and in its second row; edges without one, of each kind,
+// with a value that may fault and without.
 pub fn parts_of_edges_are_quiet()
     ensures delays { map (λ delay. quiet_edge bounded (schedule 0 delay))
         (x ∷ whole 0 ∷ minus 1 ∷ Binary Subtract x (whole 1)

@@ -10,10 +10,11 @@ ghost use Rattle.worked_runs.specs.NarrowModel.{range};
 ghost use Rattle.worked_rules.specs.RangedModels.{span, five_kinds, fed, n_and_m, takes_in, bounds_between};
 
 /// All that is set, drawn and carried into variables.
-// In turn: both targets of a `set`, each by its own right side; an `if` under what its condition leaves; an array, by a
-// cell; a draw from a range and one from a table; what an urgent edge carries, both values, under what its condition leaves;
-// what a scheduling edge carries; what one carries whose condition may fault. Nothing of an edge whose condition can't be
-// true, nor of the three that cancel. Last, of the second vertex.
+// In turn: both targets of a `set`, each by its own right side; an `if` under what its condition
+// leaves; an array, by a cell; a draw from a range and one from a table; what an urgent edge
+// carries, both values, under what its condition leaves; what a scheduling edge carries; what one
+// carries whose condition may fault. Nothing of an edge whose condition can't be true, nor of the
+// three that cancel. Last, of the second vertex.
 pub fn variables_take_values()
     ensures declared { incoming fed []
         ≡ takes_in 0 (pos 1) (pos 10) ∷ takes_in 1 (neg_ℤ (pos 5)) (pos 7)
@@ -38,8 +39,8 @@ pub fn variables_take_values()
         ∷ [] }
 {}
 
-/// What an edge carries in time is taken too: where its condition can be true, under what that leaves; after a delay that is
-/// an expression, and after a drawn one.
+/// What an edge carries in time is taken too: where its condition can be true, under what that
+/// leaves; after a delay that is an expression, and after a drawn one.
 pub fn values_are_carried_in_time()
     ensures after_a_delay { into_edge fed n_and_m
         (only_if (Binary Below (Scalar 0) (whole 5))
@@ -54,8 +55,8 @@ pub fn values_are_carried_in_time()
         (record (schedule 1 (Scalar 0)) { values = Scalar 0 ∷ Scalar 1 ∷ [] })) ≡ [] }
 {}
 
-/// A variable that clips keeps the nearest declared number at each end, and any other what lies in its declared range, if
-/// anything does.
+/// A variable that clips keeps the nearest declared number at each end, and any other what lies in
+/// its declared range, if anything does.
 // inside; below, with an end inside, at the end, beyond; above likewise; on both sides.
 pub fn variables_keep_some()
     ensures clips { map (kept_range (clipped (bounded_by [] (pos 0) (pos 9)))) bounds_between

@@ -9,10 +9,11 @@ ghost use Rattle.worked_rules.specs.GraphsApart.{graphs_apart};
 ghost use Rattle.worked_rules.specs.Halves.{equal_at};
 
 /// Each of these parts is equal to itself, and to no other of them.
-// Operators: each of the 15. Expressions: each form, the number with its sign, the truth value, the place of a scalar and of
-// an array, the index, the operand of `-` and of `not`, the operator and both operands, the condition and both branches.
-// Changes: the variable of the first target and of the second, the index, whether there is one, the second right side, how
-// many there are; of a draw the variable, the index, the stream, both ends, and the table. Edges: the target, the value, how
+// Operators: each of the 15. Expressions: each form, the number with its sign, the truth value, the
+// place of a scalar and of an array, the index, the operand of `-` and of `not`, the operator and
+// both operands, the condition and both branches. Changes: the variable of the first target and of
+// the second, the index, whether there is one, the second right side, how many there are; of a draw
+// the variable, the index, the stream, both ends, and the table. Edges: the target, the value, how
 // many there are, the condition, the delay, the priority, the stream, the choice, and each kind.
 pub fn parts_are_equal_to_themselves()
     ensures operators { map (λ p. equal_at same_operator p operators) operators
@@ -26,10 +27,10 @@ pub fn parts_are_equal_to_themselves()
 {}
 
 /// Models are equal in all their parts: each of these is equal to itself alone.
-// In turn: the name, its bytes and their number; of a variable the name, the size, the kind, both ends, `clip` and the
-// initial value, and how many there are; of a table the name, a value, a weight, how many rows, and how many tables; of the
-// watch list a vertex for a variable, the place of each, and how many; of a vertex the name, the parameters, a change, an
-// edge, and how many.
+// In turn: the name, its bytes and their number; of a variable the name, the size, the kind, both
+// ends, `clip` and the initial value, and how many there are; of a table the name, a value, a
+// weight, how many rows, and how many tables; of the watch list a vertex for a variable, the place
+// of each, and how many; of a vertex the name, the parameters, a change, an edge, and how many.
 pub fn graphs_are_equal_in_all_parts()
     ensures { map (λ g. equal_at same_graph g graphs_apart) graphs_apart
         ≡ map (λ k. k ∷ []) (range_with_len 0 25) }

@@ -1,4 +1,5 @@
-//! Fuse, half by half: which condition fails, what it gives, which pair is the first, and where fusing ends.
+//! Fuse, half by half: which condition fails, what it gives, which pair is the first, and where
+//! fusing ends.
 
 ghost use Rattle.std.specs.Prelude.{◌≡◌, ◌∷◌, [], true, false, map, replicate, Some, None};
 ghost use Rattle.model_core.specs.EventGraph.{EventGraph, WatchedVariable, WatchedVertex, CancelNext, CancelEqual, CancelAll, Fixed, Schedule, Urgent};
@@ -7,20 +8,23 @@ ghost use Rattle.model_core.specs.Rules.Fuse.{fuse_conditions, fused, first_twin
 ghost use Rattle.worked_runs.specs.Building.{plain_edge, set, whole, urgent, plus_one};
 ghost use Rattle.worked_rules.specs.TwinHalves.{to, apart_twins, last_and_mid, two_that_take, one_that_takes, cut_by_the_last, rich_changes, rich_edges, rich_twins, one_rich, changes_apart_by_one, edges_apart_by_one, two_pairs, three_alike, alone, long_twins};
 
-/// Two vertices that take values, of which edges carry some to each, are fused: all that named the second names the first, and
-/// the vertices after it move up by one, in edges and in the watch list.
-// takes: with parameters, with watched vertices between and after; result: RUN's edges to KEEP, to GONE, to RUN, to MID and
-// to LAST; KEEP's own, MID's to GONE; LAST's to itself, and its place in the watch list; a watched variable, and a watched
-// vertex ahead of GONE, stay.
+/// Two vertices that take values, of which edges carry some to each, are fused: all that named the
+/// second names the first, and the vertices after it move up by one, in edges and in the watch
+/// list.
+// takes: with parameters, with watched vertices between and after; result: RUN's edges to KEEP, to
+// GONE, to RUN, to MID and to LAST; KEEP's own, MID's to GONE; LAST's to itself, and its place in
+// the watch list; a watched variable, and a watched vertex ahead of GONE, stay.
 pub fn two_become_one()
     ensures takes { first_failed (fuse_conditions two_that_take 1 3) ≡ None }
     ensures result { fused two_that_take 1 3 ≡ one_that_takes }
 {}
 
 /// Each half of a condition fails alone.
-// 1: the first must be ahead of the second, and the second exist; 2: either is watched; 3: either is cancelled, in
-// each way, and those of another vertex may be; 4: another parameter, one less, the other order, other changes; 5: other
-// edges, of the vertices between and after; those of a third vertex don't count.
+// 1: the first must be ahead of the second, and the second exist; 2: either is watched; 3: either
+// is cancelled, in
+// each way, and those of another vertex may be; 4: another parameter, one less, the other order,
+// other changes; 5: other edges, of the vertices between and after; those of a third vertex don't
+// count.
 pub fn each_half_of_fuse_fails_alone()
     ensures backwards { first_failed (fuse_conditions two_that_take 3 1) ≡ Some 1 }
     ensures itself { first_failed (fuse_conditions two_that_take 1 1) ≡ Some 1 }
@@ -54,11 +58,13 @@ pub fn each_half_of_fuse_fails_alone()
         ≡ None }
 {}
 
-/// Two vertices with each feature of the language are fused, and are not where one thing of one of them is another.
-// changes: of a draw the stream, both ends and the variable; of one by a table the index, whether there is one, the stream,
-// the table, and a range for a table; of a `set` the index, the second target, one less, each right side. edges: of a drawn
-// delay the stream, both ends, the priority, the condition, the value, a delay that isn't drawn, a table; each cancel as each
-// other one, with other values and without; one that is never taken as one that is, to another vertex, in time.
+/// Two vertices with each feature of the language are fused, and are not where one thing of one of
+/// them is another.
+// changes: of a draw the stream, both ends and the variable; of one by a table the index, whether
+// there is one, the stream, the table, and a range for a table; of a `set` the index, the second
+// target, one less, each right side. edges: of a drawn delay the stream, both ends, the priority,
+// the condition, the value, a delay that isn't drawn, a table; each cancel as each other one, with
+// other values and without; one that is never taken as one that is, to another vertex, in time.
 pub fn rich_vertices_are_fused_where_they_are_equal()
     ensures equal { first_failed (fuse_conditions (rich_twins rich_changes rich_edges) 1 2) ≡ None }
     ensures result { fused (rich_twins rich_changes rich_edges) 1 2 ≡ one_rich }
@@ -72,10 +78,10 @@ pub fn rich_vertices_are_fused_where_they_are_equal()
         ≡ replicate 19 (Some 5) }
 {}
 
-/// Changes are the same one by one, as many and in order. Edges are too, where what names either vertex of the two names
-/// one.
-// changes: one less, one more, another order; edges: of the one and of the other in each of the four ways; to a third and a
-// fourth vertex; one less; another order; another priority.
+/// Changes are the same one by one, as many and in order. Edges are too, where what names either
+/// vertex of the two names one.
+// changes: one less, one more, another order; edges: of the one and of the other in each of the
+// four ways; to a third and a fourth vertex; one less; another order; another priority.
 pub fn lists_are_the_same()
     ensures no_change { same_changes [] [] ≡ true }
     ensures changes { map
@@ -92,7 +98,8 @@ pub fn lists_are_the_same()
         ≡ true ∷ true ∷ true ∷ false ∷ false ∷ false ∷ false ∷ false ∷ false ∷ [] }
 {}
 
-/// The first pair is the first by the one that is kept, and then by the other; the first vertex may be one.
+/// The first pair is the first by the one that is kept, and then by the other; the first vertex may
+/// be one.
 pub fn the_first_pair_is_taken()
     ensures by_the_first { first_twins two_pairs ≡ Some (1, 4) }
     ensures then_by_the_second { first_twins three_alike ≡ Some (0, 1) }
@@ -100,7 +107,8 @@ pub fn the_first_pair_is_taken()
     ensures none { first_twins alone ≡ None }
 {}
 
-/// Condition 6 is that the result isn't too long: it may have as many bytes as a text may have, and no more.
+/// Condition 6 is that the result isn't too long: it may have as many bytes as a text may have, and
+/// no more.
 pub fn fused_models_have_texts()
     ensures as_many_bytes { first_failed (fuse_conditions (long_twins 4194182) 0 1) ≡ None }
     ensures too_many_bytes { first_failed (fuse_conditions (long_twins 4194183) 0 1) ≡ Some 6 }
