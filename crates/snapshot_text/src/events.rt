@@ -1,8 +1,8 @@
 //! The pending events of a snapshot, where all that it says of them is good.
 
-ghost use Rattle.std.specs.Prelude.{◌≡◌, ◌++◌, ◌+◌, ◌≤◌, ◌^◌, true, length, map};
+ghost use Rattle.std.specs.Prelude.{◌≡◌, ◌++◌, ◌+◌, ◌≤◌, true, length, map};
 ghost use Rattle.std.specs.List.{AllByRecursion, list_all};
-ghost use Rattle.sig_base.specs.declared.limits.TheConstants.{PARAMETERS_MAX};
+ghost use Rattle.sig_base.specs.declared.limits.TheConstants.{PARAMETERS_MAX, STOP_MAX};
 ghost use Rattle.model_core.specs.EventGraph.{EventVertex};
 ghost use Rattle.model_core.specs.Run.Step.{vertex_at};
 ghost use Rattle.model_core.specs.Code.Views.{graph_of};
@@ -60,7 +60,7 @@ fn entry_of(model: &Model, places: &Places, clock: u64, raw: &RawPending<'_>) ->
         (λ (v : EventVertex). length v.parameters ≤ PARAMETERS_MAX)
         (graph_of model.now).vertices }
     requires placed { HasPlaces (names_of_vertices (graph_of model.now).vertices) places.now }
-    requires early { clock ≤ 2 ^ 48 }
+    requires early { clock ≤ STOP_MAX }
     ensures { result
         ≡ if_good (pending_part (graph_of model.now) (written_pending raw.now)).good
         (saved_entry (graph_of model.now) clock (written_pending raw.now)) }
@@ -94,7 +94,7 @@ pub(crate) fn pending_of(
     requires parameters_fit { AllByRecursion
         (λ (v : EventVertex). length v.parameters ≤ PARAMETERS_MAX)
         (graph_of model.now).vertices }
-    requires early { clock ≤ 2 ^ 48 }
+    requires early { clock ≤ STOP_MAX }
     ensures { Judged result
         (map (pending_part (graph_of model.now)) (map written_pending raws.now))
         (λ entries. entries

@@ -1,8 +1,8 @@
 //! The saved run that a snapshot spells, if the snapshot is good.
 
-ghost use Rattle.std.specs.Prelude.{◌≡◌, ◌≤◌, ◌^◌, length};
+ghost use Rattle.std.specs.Prelude.{◌≡◌, ◌≤◌, length};
 ghost use Rattle.std.specs.List.{AllByRecursion};
-ghost use Rattle.sig_base.specs.declared.limits.TheConstants.{PARAMETERS_MAX};
+ghost use Rattle.sig_base.specs.declared.limits.TheConstants.{PARAMETERS_MAX, STOP_MAX};
 ghost use Rattle.model_core.specs.EventGraph.{EventVertex};
 ghost use Rattle.model_core.specs.Code.Views.{graph_of};
 ghost use Rattle.model_core.specs.Saved.GoodSnapshots.{snapshot_parts, saved_run};
@@ -34,7 +34,7 @@ fn later_judged(
     requires parameters_fit { AllByRecursion
         (λ (v : EventVertex). length v.parameters ≤ PARAMETERS_MAX)
         (graph_of model.now).vertices }
-    requires early { clock ≤ 2 ^ 48 }
+    requires early { clock ≤ STOP_MAX }
     ensures { Judged result (later_parts (graph_of model.now) (written_snapshot raw.now))
         (λ s. s ≡ later_saved (graph_of model.now) (written_snapshot raw.now) seed clock events) }
 {
