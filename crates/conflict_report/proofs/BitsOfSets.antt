@@ -88,7 +88,7 @@ taken-elsewhere : (xs : List ℕ) (i j : ℕ) → (j ≡ i → ⊥) → get_or (
 taken-elsewhere xs i j apart = by (cases_lt j i) where
   by : (j < i) ⊎ (i ≤ j) → get_or (take i xs) j 0 ≡ get_or (take (i + 1) xs) j 0
   by (inl before) = get_or-take i xs j 0 before ∙ sym (get_or-take (i + 1) xs j 0 (omega arith))
-  by (inr behind) = get_or_past (take i xs) j 0 (omega (arith, length-take i xs)) ∙ sym (get_or_past (take (i + 1) xs) j 0 (omega (arith, length-take (i + 1) xs)))
+  by (inr past) = get_or_past (take i xs) j 0 (omega (arith, length-take i xs)) ∙ sym (get_or_past (take (i + 1) xs) j 0 (omega (arith, length-take (i + 1) xs)))
 
 -- one word more is joined
 pub join-more : (words old others : List ℕ) (i : ℕ) → i < length words → i < length others → ((j : ℕ) → get_or words j 0 ≡ bit_or (get_or old j 0) (get_or (take i others) j 0)) → (j : ℕ) → get_or (set words i (bit_or (get_or words i 0) (get_or others i 0))) j 0 ≡ bit_or (get_or old j 0) (get_or (take (i + 1) others) j 0)

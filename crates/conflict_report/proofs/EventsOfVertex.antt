@@ -23,15 +23,15 @@ module _ (keep test : Entry → Bool) where
   chosen-kept e is es n true = staying-kept e is n
   chosen-kept e is es n false = refl
 
-  behind-kept : (e : Entry) → keep e ≡ true → (es : List Entry) (c : Bool) (o : Option EntryAndRest) → cond c (next_or_first e (filter keep es) (option_map kept_off o)) (option_map (staying e) (option_map kept_off o)) ≡ option_map kept_off (cond c (next_or_first e es o) (option_map (staying e) o))
-  behind-kept e is es true None = refl
-  behind-kept e is es true (Some n) = ap (λ (n : EntryAndRest). Some n) (chosen-kept e is es n (sooner n.entry e))
-  behind-kept e is es false None = refl
-  behind-kept e is es false (Some n) = ap (λ (n : EntryAndRest). Some n) (staying-kept e is n)
+  chosen_next-kept : (e : Entry) → keep e ≡ true → (es : List Entry) (c : Bool) (o : Option EntryAndRest) → cond c (next_or_first e (filter keep es) (option_map kept_off o)) (option_map (staying e) (option_map kept_off o)) ≡ option_map kept_off (cond c (next_or_first e es o) (option_map (staying e) o))
+  chosen_next-kept e is es true None = refl
+  chosen_next-kept e is es true (Some n) = ap (λ (n : EntryAndRest). Some n) (chosen-kept e is es n (sooner n.entry e))
+  chosen_next-kept e is es false None = refl
+  chosen_next-kept e is es false (Some n) = ap (λ (n : EntryAndRest). Some n) (staying-kept e is n)
 
-  behind-left_out : (e : Entry) → keep e ≡ false → (o : Option EntryAndRest) → option_map kept_off o ≡ option_map kept_off (option_map (staying e) o)
-  behind-left_out e is None = refl
-  behind-left_out e is (Some n) = ap (λ (n : EntryAndRest). Some n) (staying-left_out e is n)
+  staying_next-left_out : (e : Entry) → keep e ≡ false → (o : Option EntryAndRest) → option_map kept_off o ≡ option_map kept_off (option_map (staying e) o)
+  staying_next-left_out e is None = refl
+  staying_next-left_out e is (Some n) = ap (λ (n : EntryAndRest). Some n) (staying-left_out e is n)
 
   -- what passes the test is kept
   module _ (within : (e : Entry) → keep e ≡ false → test e ≡ false) where
@@ -40,9 +40,9 @@ module _ (keep test : Entry → Bool) where
     next_among-filter (e ∷ es) = by (keep e) refl (next_among-filter es) where
       by : (c : Bool) → keep e ≡ c → next_among test (filter keep es) ≡ option_map kept_off (next_among test es) → next_among test (cond c (e ∷ filter keep es) (filter keep es)) ≡ option_map kept_off (cond (test e) (next_or_first e es (next_among test es)) (option_map (staying e) (next_among test es)))
       by true is later =
-          ap (λ (o : Option EntryAndRest). cond (test e) (next_or_first e (filter keep es) o) (option_map (staying e) o)) later ∙ behind-kept e is es (test e) (next_among test es)
+          ap (λ (o : Option EntryAndRest). cond (test e) (next_or_first e (filter keep es) o) (option_map (staying e) o)) later ∙ chosen_next-kept e is es (test e) (next_among test es)
       by false is later =
-          later ∙ behind-left_out e is (next_among test es) ∙ ap (λ (c : Bool). option_map kept_off (cond c (next_or_first e es (next_among test es)) (option_map (staying e) (next_among test es)))) (sym (within e is))
+          later ∙ staying_next-left_out e is (next_among test es) ∙ ap (λ (c : Bool). option_map kept_off (cond c (next_or_first e es (next_among test es)) (option_map (staying e) (next_among test es)))) (sym (within e is))
 
     others-kept : (o : Option EntryAndRest) (es : List Entry) → unwrap_or (option_map (λ n. n.others) (option_map kept_off o)) (filter keep es) ≡ filter keep (unwrap_or (option_map (λ n. n.others) o) es)
     others-kept None es = refl
@@ -67,18 +67,18 @@ module _ (keep test : Entry → Bool) where
     left-out : (e : Entry) (es : List Entry) → test e ≡ true → filter keep es ≡ filter keep (e ∷ es)
     left-out e es passes = ap (λ (c : Bool). cond c (e ∷ filter keep es) (filter keep es)) (sym (not-kept e passes))
 
-    leaves-behind : (e : Entry) (es : List Entry) (c : Bool) → test e ≡ c → (o : Option EntryAndRest) → Leaves es o → Leaves (e ∷ es) (cond c (next_or_first e es o) (option_map (staying e) o))
-    leaves-behind e es true is None same = left-out e es is
-    leaves-behind e es true is (Some n) same = chosen (sooner n.entry e) where
+    next_or_staying-leaves : (e : Entry) (es : List Entry) (c : Bool) → test e ≡ c → (o : Option EntryAndRest) → Leaves es o → Leaves (e ∷ es) (cond c (next_or_first e es o) (option_map (staying e) o))
+    next_or_staying-leaves e es true is None same = left-out e es is
+    next_or_staying-leaves e es true is (Some n) same = chosen (sooner n.entry e) where
       chosen : (c : Bool) → filter keep (cond c (staying e n) (record { entry = e; others = es })).others ≡ filter keep (e ∷ es)
       chosen true = ap (λ (es : List Entry). cond (keep e) (e ∷ es) es) same
       chosen false = left-out e es is
-    leaves-behind e es false is None same = tt
-    leaves-behind e es false is (Some n) same = ap (λ (es : List Entry). cond (keep e) (e ∷ es) es) same
+    next_or_staying-leaves e es false is None same = tt
+    next_or_staying-leaves e es false is (Some n) same = ap (λ (es : List Entry). cond (keep e) (e ∷ es) es) same
 
     next_among-leaves : (es : List Entry) → Leaves es (next_among test es)
     next_among-leaves [] = tt
-    next_among-leaves (e ∷ es) = leaves-behind e es (test e) refl (next_among test es) (next_among-leaves es)
+    next_among-leaves (e ∷ es) = next_or_staying-leaves e es (test e) refl (next_among test es) (next_among-leaves es)
 
     without_next-outside : (es : List Entry) → filter keep (without_next test es) ≡ filter keep es
     without_next-outside es = by (next_among test es) (next_among-leaves es) where

@@ -127,12 +127,12 @@ module _ (g : EventGraph) (seed : ℕ) (s : State) (clk : ℕ) (pending : List E
 -- ---- a step by its event
 
 -- the configuration of a run once the outcome's deeds are done to a list
-abbrev pub stands_after : ℕ → List Entry → Outcome → Configuration
-stands_after clk pending o = record { clock = clk; state = o.drawn.state; taken = o.drawn.taken; pending = after_edits o.deeds pending }
+abbrev pub configuration_after : ℕ → List Entry → Outcome → Configuration
+configuration_after clk pending o = record { clock = clk; state = o.drawn.state; taken = o.drawn.taken; pending = after_edits o.deeds pending }
 
-pub occur-event : (g : EventGraph) (seed : ℕ) (v : EventVertex) (n : EntryAndRest) (d : ChangeState) → occur g seed v n d.state d.taken ≡ result_by (stands_after n.entry.time n.others) (outcome_of g seed n.entry.time v n.entry.values d)
+pub occur-event : (g : EventGraph) (seed : ℕ) (v : EventVertex) (n : EntryAndRest) (d : ChangeState) → occur g seed v n d.state d.taken ≡ result_by (configuration_after n.entry.time n.others) (outcome_of g seed n.entry.time v n.entry.values d)
 occur-event g seed v n d =
-    let at_end = stands_after n.entry.time n.others in
+    let at_end = configuration_after n.entry.time n.others in
     bind-within at_end (receive g v.parameters n.entry.values d.state) _ _ (λ s got.
     bind-within at_end (in_turn (make_change g seed n.entry.time) v.changes (record { state = s; taken = d.taken })) _ _ (λ e made.
     ap (λ (r : OrFault EdgeState). r >>= λ p. let r : OrFault Configuration = Ok (record { clock = n.entry.time; state = e.state; taken = p.taken; pending = p.pending }) in r) (edges-plan g seed e.state n.entry.time n.others v.edges (record { deeds = []; taken = e.taken })) ∙

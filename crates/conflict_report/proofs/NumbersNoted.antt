@@ -128,9 +128,9 @@ module _ (L : ℕ → List ℕ) (i j k : ℕ) where
   numbers-next = by (cases_lt j i) (cases_eq j i) where
     by : (j < i) ⊎ (i ≤ j) → (j ≡ i) ⊎ (j ≡ i → ⊥) → own_or_before (i == j) (nat_lt j i) ≡ after (nat_lt j (i + 1))
     by (inl before) either = ap₂ own_or_before (ne_eqb i j (λ e. absurd (omega (arith, e)))) (lt-ltb j i before) ∙ sym (ap after (lt-ltb j (i + 1) (omega arith)))
-    by (inr behind) (inl same) =
-        ap₂ own_or_before (same_number i j (sym same)) (le-ltb j i behind) ∙ or-false (is_among (L i) k) ∙ ap (λ n. is_among (L n) k) (sym same) ∙ sym (ap after (lt-ltb j (i + 1) (omega arith)))
-    by (inr behind) (inr apart) = ap₂ own_or_before (ne_eqb i j (λ e. apart (sym e))) (le-ltb j i behind) ∙ sym (ap after (le-ltb j (i + 1) (omega arith)))
+    by (inr past) (inl same) =
+        ap₂ own_or_before (same_number i j (sym same)) (le-ltb j i past) ∙ or-false (is_among (L i) k) ∙ ap (λ n. is_among (L n) k) (sym same) ∙ sym (ap after (lt-ltb j (i + 1) (omega arith)))
+    by (inr past) (inr apart) = ap₂ own_or_before (ne_eqb i j (λ e. apart (sym e))) (le-ltb j i past) ∙ sym (ap after (le-ltb j (i + 1) (omega arith)))
 
 pub none-before : (L : ℕ → List ℕ) (sets : List (List ℕ)) → sets ≡ [] → HoldExactly (numbers_before 0 L) sets
 none-before L sets empty k j = ap (λ (ss : List (List ℕ)). holds ss k j) empty ∙ none-holds k j ∙ ap (λ b. is_among (cond b (L j) []) k) (sym (le-ltb j 0 (omega arith)))

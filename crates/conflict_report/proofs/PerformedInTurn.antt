@@ -14,7 +14,7 @@ use Rattle.model_core.specs.Conflicts.Orders.{StaysPending}
 use Rattle.model_core.proofs.PlacesChanged.{same_number, apart-turned}
 use Rattle.run_laws.proofs.Spared.InTurn.{result_by}
 use Rattle.model_core.proofs.PlacesTakenOff.{get-without, remove-turned}
-use Rattle.conflict_report.proofs.ListEdits.{ListEdit, after_edits, Outcome, stands_after, occur-event}
+use Rattle.conflict_report.proofs.ListEdits.{ListEdit, after_edits, Outcome, configuration_after, occur-event}
 use Rattle.conflict_report.proofs.Events.{event-written}
 use Rattle.conflict_report.proofs.PutIn.{PendingAt, pending-again}
 use Rattle.conflict_report.proofs.NoConflict.{NoConflict, deeds-cut-others, DeedsBy}
@@ -48,13 +48,13 @@ without_both pending i j = remove (remove pending i) (place_without i j)
 module _ (g : EventGraph) (seed t : ℕ) where
   -- the step of an event whose outcome is known
   abbrev step_result : List Entry → OrFault Outcome → Result Configuration Fault
-  step_result others r = faulted_at t (result_by (stands_after t others) r)
+  step_result others r = faulted_at t (result_by (configuration_after t others) r)
 
   performed-is : (c : Configuration) (place : ℕ) (e : Entry) → slice_get c.pending place ≡ Some e → e.time ≡ t → perform g seed c place ≡ Some (step_result (remove c.pending place) (event_of g seed t e (drawn_in c)))
   performed-is c place e there due =
       ap (λ (o : Option Entry). option_map (step g seed c) (option_map (λ e. record { entry = e; others = remove c.pending place }) o)) there ∙
       (ap (λ (r : OrFault Configuration). Some (faulted_at e.time r)) (occur-event g seed (vertex_at g e.vertex) (record { entry = e; others = remove c.pending place }) (drawn_in c)) ∙
-      ap (λ (u : ℕ). Some (faulted_at u (result_by (stands_after u (remove c.pending place)) (event_of g seed u e (drawn_in c))))) due)
+      ap (λ (u : ℕ). Some (faulted_at u (result_by (configuration_after u (remove c.pending place)) (event_of g seed u e (drawn_in c))))) due)
 
   module _ (c : Configuration) (i j : ℕ) (a b : Entry) (two : TwoPending t c i j a b) where
     both-is : after_both_events g seed c i j ≡ after_second_event g seed c.pending i j b (step_result (remove c.pending i) (event_of g seed t a (drawn_in c)))
@@ -75,7 +75,7 @@ module _ (g : EventGraph) (seed t : ℕ) where
       first-goes : (o : Outcome) → event_of g seed t a (drawn_in c) ≡ Ok o → after_both_events g seed c i j ≡ Some (step_result (after_edits o.deeds (without_both c.pending i j)) (event_of g seed t b o.drawn))
       first-goes o goes =
           let found = still-pending o.deeds (event-written g seed t (vertex_at g a.vertex) a.values (drawn_in c) o goes).deeds in
-          let d = stands_after t (remove c.pending i) o in
+          let d = configuration_after t (remove c.pending i) o in
           both-is ∙
           (ap (λ (r : OrFault Outcome). after_second_event g seed c.pending i j b (step_result (remove c.pending i) r)) goes ∙
           (performed-is d (place_after_first c.pending i j b.vertex d.pending) b found.there two.second_due ∙
@@ -89,7 +89,7 @@ module _ (g : EventGraph) (seed t : ℕ) where
         by (Ok o) is = (record { time = t; kind = k }, first-goes o is ∙ ap (λ (r : OrFault Outcome). Some (step_result (after_edits o.deeds (without_both c.pending i j)) r)) (later o is))
 
       -- both go on
-      pub both-give : (o later : Outcome) → event_of g seed t a (drawn_in c) ≡ Ok o → event_of g seed t b o.drawn ≡ Ok later → after_both_events g seed c i j ≡ Some (Ok (stands_after t (after_edits o.deeds (without_both c.pending i j)) later))
+      pub both-give : (o later : Outcome) → event_of g seed t a (drawn_in c) ≡ Ok o → event_of g seed t b o.drawn ≡ Ok later → after_both_events g seed c i j ≡ Some (Ok (configuration_after t (after_edits o.deeds (without_both c.pending i j)) later))
       both-give o later goes goes_then = first-goes o goes ∙ ap (λ (r : OrFault Outcome). Some (step_result (after_edits o.deeds (without_both c.pending i j)) r)) goes_then
 
       -- where it goes on to d, the second event is still pending, and doesn't matter to it
@@ -98,7 +98,7 @@ module _ (g : EventGraph) (seed t : ℕ) where
         known : (r : OrFault Outcome) → event_of g seed t a (drawn_in c) ≡ r → ◌≡◌ {A = Option (Result Configuration Fault)} (Some (step_result (remove c.pending i) r)) (Some (Ok d))
         known r is = sym (performed-is c i a two.first_there two.first_due ∙ ap (λ (r : OrFault Outcome). Some (step_result (remove c.pending i) r)) is) ∙ goes
 
-        standing-so : (o : Outcome) → event_of g seed t a (drawn_in c) ≡ Ok o → StaysPending g seed c i j b (stands_after t (remove c.pending i) o)
+        standing-so : (o : Outcome) → event_of g seed t a (drawn_in c) ≡ Ok o → StaysPending g seed c i j b (configuration_after t (remove c.pending i) o)
         standing-so o is =
             let found = still-pending o.deeds (event-written g seed t (vertex_at g a.vertex) a.values (drawn_in c) o is).deeds in
             let alone = record c { pending = remove c.pending j } in
@@ -113,5 +113,5 @@ module _ (g : EventGraph) (seed t : ℕ) where
         by (Err k) is = let no = known (Err k) is in cc
         by (Ok o) is =
             let same = known (Ok o) is in
-            let stands : stands_after t (remove c.pending i) o ≡ d = cc in
-            subst (StaysPending g seed c i j b) stands (standing-so o is)
+            let same_after : configuration_after t (remove c.pending i) o ≡ d = cc in
+            subst (StaysPending g seed c i j b) same_after (standing-so o is)

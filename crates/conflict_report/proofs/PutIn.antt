@@ -12,47 +12,47 @@ module _ (b : Entry) (vertex : ℕ) where
   -- the second list is the first one with b put in after so many events of the vertex
   pub data PutIn : ℕ → List Entry → List Entry → Type 0 where
     put_first : (xs : List Entry) → PutIn zero xs (b ∷ xs)
-    behind_own : (x : Entry) → is_of vertex x ≡ true → {n : ℕ} {xs ys : List Entry} → PutIn n xs ys → PutIn (suc n) (x ∷ xs) (x ∷ ys)
-    behind_other : (x : Entry) → is_of vertex x ≡ false → {n : ℕ} {xs ys : List Entry} → PutIn n xs ys → PutIn n (x ∷ xs) (x ∷ ys)
+    after_own : (x : Entry) → is_of vertex x ≡ true → {n : ℕ} {xs ys : List Entry} → PutIn n xs ys → PutIn (suc n) (x ∷ xs) (x ∷ ys)
+    after_other : (x : Entry) → is_of vertex x ≡ false → {n : ℕ} {xs ys : List Entry} → PutIn n xs ys → PutIn n (x ∷ xs) (x ∷ ys)
 
   -- ---- places
 
-  put_behind : (x : Entry) (n : ℕ) (xs ys : List Entry) → PutIn n xs ys → PutIn (cond (is_of vertex x) 1 0 + n) (x ∷ xs) (x ∷ ys)
-  put_behind x n xs ys p = by (is_of vertex x) refl where
+  put_after : (x : Entry) (n : ℕ) (xs ys : List Entry) → PutIn n xs ys → PutIn (cond (is_of vertex x) 1 0 + n) (x ∷ xs) (x ∷ ys)
+  put_after x n xs ys p = by (is_of vertex x) refl where
     by : (c : Bool) → is_of vertex x ≡ c → PutIn (cond c 1 0 + n) (x ∷ xs) (x ∷ ys)
-    by true own = subst (λ m. PutIn m (x ∷ xs) (x ∷ ys)) (omega arith) (behind_own x own p)
-    by false own = subst (λ m. PutIn m (x ∷ xs) (x ∷ ys)) (omega arith) (behind_other x own p)
+    by true own = subst (λ m. PutIn m (x ∷ xs) (x ∷ ys)) (omega arith) (after_own x own p)
+    by false own = subst (λ m. PutIn m (x ∷ xs) (x ∷ ys)) (omega arith) (after_other x own p)
 
   put_in-of_place : (ys : List Entry) (k : ℕ) → slice_get ys k ≡ Some b → PutIn (events_ahead vertex ys k) (remove ys k) ys
   put_in-of_place [] k e = cc
   put_in-of_place (y ∷ ys) zero e = let same : b ≡ y = cc in subst (λ y. PutIn zero ys (y ∷ ys)) same (put_first ys)
   put_in-of_place (y ∷ ys) (suc k) e =
-      subst (λ n. PutIn n (y ∷ remove ys k) (y ∷ ys)) (sym (sum_by-cons (λ x. cond (is_of vertex x) 1 0) y (take k ys))) (put_behind y (events_ahead vertex ys k) (remove ys k) ys (put_in-of_place ys k e))
+      subst (λ n. PutIn n (y ∷ remove ys k) (y ∷ ys)) (sym (sum_by-cons (λ x. cond (is_of vertex x) 1 0) y (take k ys))) (put_after y (events_ahead vertex ys k) (remove ys k) ys (put_in-of_place ys k e))
 
   -- the event's place, and the list without it
   pub record PendingAt (xs ys : List Entry) (k : ℕ) : Type 0 where
     pub there : slice_get ys k ≡ Some b
     pub others : remove ys k ≡ xs
 
-  pending-behind : (x : Entry) (xs ys : List Entry) (k : ℕ) → PendingAt xs ys k → PendingAt (x ∷ xs) (x ∷ ys) (suc k)
-  pending-behind x xs ys k f = record { there = f.there; others = ap (λ zs. x ∷ zs) f.others }
+  pending-after : (x : Entry) (xs ys : List Entry) (k : ℕ) → PendingAt xs ys k → PendingAt (x ∷ xs) (x ∷ ys) (suc k)
+  pending-after x xs ys k f = record { there = f.there; others = ap (λ zs. x ∷ zs) f.others }
 
   place-pending : is_of vertex b ≡ true → (n : ℕ) (xs ys : List Entry) → PutIn n xs ys → PendingAt xs ys (place_with_ahead vertex n ys)
   place-pending own n xs ys (put_first zs) =
       subst (λ (c : Bool). PendingAt zs (b ∷ zs) (cond c 0 (suc (place_with_ahead vertex zero zs)))) (sym own) (record { there = refl; others = refl })
-  place-pending own n xs ys (behind_own x is {n = m} {xs = ps} {ys = qs} p) =
-      subst (λ (c : Bool). PendingAt (x ∷ ps) (x ∷ qs) (suc (place_with_ahead vertex (cond c m (suc m)) qs))) (sym is) (pending-behind x ps qs (place_with_ahead vertex m qs) (place-pending own m ps qs p))
-  place-pending own zero xs ys (behind_other x is {n = m} {xs = ps} {ys = qs} p) =
-      subst (λ (c : Bool). PendingAt (x ∷ ps) (x ∷ qs) (cond c 0 (suc (place_with_ahead vertex zero qs)))) (sym is) (pending-behind x ps qs (place_with_ahead vertex zero qs) (place-pending own zero ps qs p))
-  place-pending own (suc n) xs ys (behind_other x is {n = m} {xs = ps} {ys = qs} p) =
-      subst (λ (c : Bool). PendingAt (x ∷ ps) (x ∷ qs) (suc (place_with_ahead vertex (cond c n (suc n)) qs))) (sym is) (pending-behind x ps qs (place_with_ahead vertex (suc n) qs) (place-pending own (suc n) ps qs p))
+  place-pending own n xs ys (after_own x is {n = m} {xs = ps} {ys = qs} p) =
+      subst (λ (c : Bool). PendingAt (x ∷ ps) (x ∷ qs) (suc (place_with_ahead vertex (cond c m (suc m)) qs))) (sym is) (pending-after x ps qs (place_with_ahead vertex m qs) (place-pending own m ps qs p))
+  place-pending own zero xs ys (after_other x is {n = m} {xs = ps} {ys = qs} p) =
+      subst (λ (c : Bool). PendingAt (x ∷ ps) (x ∷ qs) (cond c 0 (suc (place_with_ahead vertex zero qs)))) (sym is) (pending-after x ps qs (place_with_ahead vertex zero qs) (place-pending own zero ps qs p))
+  place-pending own (suc n) xs ys (after_other x is {n = m} {xs = ps} {ys = qs} p) =
+      subst (λ (c : Bool). PendingAt (x ∷ ps) (x ∷ qs) (suc (place_with_ahead vertex (cond c n (suc n)) qs))) (sym is) (pending-after x ps qs (place_with_ahead vertex (suc n) qs) (place-pending own (suc n) ps qs p))
 
   -- ---- deeds
 
   put_in-append : {n : ℕ} {xs ys : List Entry} → PutIn n xs ys → (zs : List Entry) → PutIn n (xs ++ zs) (ys ++ zs)
   put_in-append (put_first xs) zs = put_first (xs ++ zs)
-  put_in-append (behind_own x is p) zs = behind_own x is (put_in-append p zs)
-  put_in-append (behind_other x is p) zs = behind_other x is (put_in-append p zs)
+  put_in-append (after_own x is p) zs = after_own x is (put_in-append p zs)
+  put_in-append (after_other x is p) zs = after_other x is (put_in-append p zs)
 
   -- a test that no event of the vertex passes
   abbrev pub PassesOthers : (Entry → Bool) → Type 0
@@ -73,10 +73,10 @@ module _ (b : Entry) (vertex : ℕ) where
   taken-own x is n None None same = tt
   taken-own x is n None (Some q) same = absurd same
   taken-own x is n (Some p) None same = absurd same
-  taken-own x is n (Some p) (Some q) (same, put) = (same, behind_own x is put)
+  taken-own x is n (Some p) (Some q) (same, put) = (same, after_own x is put)
 
   taken-chosen : (x : Entry) → is_of vertex x ≡ false → {n : ℕ} {xs ys : List Entry} → PutIn n xs ys → (p q : EntryAndRest) → PutIn n p.others q.others → p.entry ≡ q.entry → (c : Bool) → TakenAlike n (Some (cond c (staying x p) (record { entry = x; others = xs }))) (Some (cond c (staying x q) (record { entry = x; others = ys })))
-  taken-chosen x is i p q j same true = (same, behind_other x is j)
+  taken-chosen x is i p q j same true = (same, after_other x is j)
   taken-chosen x is i p q j same false = (refl, i)
 
   taken-other : (x : Entry) → is_of vertex x ≡ false → {n : ℕ} {xs ys : List Entry} → PutIn n xs ys → (c : Bool) (o p : Option EntryAndRest) → TakenAlike n o p → TakenAlike n (cond c (next_or_first x xs o) (option_map (staying x) o)) (cond c (next_or_first x ys p) (option_map (staying x) p))
@@ -86,7 +86,7 @@ module _ (b : Entry) (vertex : ℕ) where
   taken-other x is i c (Some p) None same = absurd same
   taken-other x is {n} {xs} {ys} i true (Some p) (Some q) (same, j) =
       subst (λ (e : Entry). TakenAlike n (Some (cond (sooner p.entry x) (staying x p) (record { entry = x; others = xs }))) (Some (cond (sooner e x) (staying x q) (record { entry = x; others = ys })))) same (taken-chosen x is i p q j same (sooner p.entry x))
-  taken-other x is i false (Some p) (Some q) (same, j) = (same, behind_other x is j)
+  taken-other x is i false (Some p) (Some q) (same, j) = (same, after_other x is j)
 
   taken-left : {n : ℕ} {xs ys : List Entry} → PutIn n xs ys → (o p : Option EntryAndRest) → TakenAlike n o p → PutIn n (unwrap_or (option_map (λ n. n.others) o) xs) (unwrap_or (option_map (λ n. n.others) p) ys)
   taken-left i None None same = i
@@ -98,24 +98,24 @@ module _ (b : Entry) (vertex : ℕ) where
     next_among-put_in : {n : ℕ} {xs ys : List Entry} → PutIn n xs ys → TakenAlike n (next_among test xs) (next_among test ys)
     next_among-put_in (put_first xs) =
         subst (λ (c : Bool). TakenAlike zero (next_among test xs) (cond c (next_or_first b xs (next_among test xs)) (option_map (staying b) (next_among test xs)))) (sym (passes b b_own)) (taken-front (next_among test xs))
-    next_among-put_in (behind_own x is {n = n} {xs = xs} {ys = ys} p) =
+    next_among-put_in (after_own x is {n = n} {xs = xs} {ys = ys} p) =
         subst (λ (c : Bool). TakenAlike (suc n) (cond c (next_or_first x xs (next_among test xs)) (option_map (staying x) (next_among test xs))) (cond c (next_or_first x ys (next_among test ys)) (option_map (staying x) (next_among test ys)))) (sym (passes x is)) (taken-own x is n (next_among test xs) (next_among test ys) (next_among-put_in p))
-    next_among-put_in (behind_other x is {n = n} {xs = xs} {ys = ys} p) =
+    next_among-put_in (after_other x is {n = n} {xs = xs} {ys = ys} p) =
         taken-other x is p (test x) (next_among test xs) (next_among test ys) (next_among-put_in p)
 
     without_next-put_in : {n : ℕ} {xs ys : List Entry} → PutIn n xs ys → PutIn n (without_next test xs) (without_next test ys)
     without_next-put_in {n} {xs} {ys} p = taken-left p (next_among test xs) (next_among test ys) (next_among-put_in p)
 
     kept-put_in : (x : Entry) → is_of vertex x ≡ false → {n : ℕ} {xs ys : List Entry} → PutIn n xs ys → (c : Bool) → PutIn n (cond c (x ∷ xs) xs) (cond c (x ∷ ys) ys)
-    kept-put_in x is p true = behind_other x is p
+    kept-put_in x is p true = after_other x is p
     kept-put_in x is p false = p
 
     without_all-put_in : {n : ℕ} {xs ys : List Entry} → PutIn n xs ys → PutIn n (without_all test xs) (without_all test ys)
     without_all-put_in (put_first xs) =
         subst (λ (c : Bool). PutIn zero (without_all test xs) (cond (not c) (b ∷ without_all test xs) (without_all test xs))) (sym (passes b b_own)) (put_first (without_all test xs))
-    without_all-put_in (behind_own x is {n = n} {xs = xs} {ys = ys} p) =
-        subst (λ (c : Bool). PutIn (suc n) (cond (not c) (x ∷ without_all test xs) (without_all test xs)) (cond (not c) (x ∷ without_all test ys) (without_all test ys))) (sym (passes x is)) (behind_own x is (without_all-put_in p))
-    without_all-put_in (behind_other x is p) = kept-put_in x is (without_all-put_in p) (not (test x))
+    without_all-put_in (after_own x is {n = n} {xs = xs} {ys = ys} p) =
+        subst (λ (c : Bool). PutIn (suc n) (cond (not c) (x ∷ without_all test xs) (without_all test xs)) (cond (not c) (x ∷ without_all test ys) (without_all test ys))) (sym (passes x is)) (after_own x is (without_all-put_in p))
+    without_all-put_in (after_other x is p) = kept-put_in x is (without_all-put_in p) (not (test x))
 
   module _ (b_own : is_of vertex b ≡ true) where
     after_edit-put_in : (x : ListEdit) → CutsOthers vertex x → {n : ℕ} {xs ys : List Entry} → PutIn n xs ys → PutIn n (after_edit x xs) (after_edit x ys)

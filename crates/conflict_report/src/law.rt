@@ -20,7 +20,7 @@ pub fn events_without_conflict_commute()
         → Simultaneous g c.pending first second a b → in_conflict g a.vertex b.vertex ≡ false
         → Commute (after_both_events g seed c first second)
         (after_both_events g seed c second first) }
-    ensures stays { (g : EventGraph) (seed : ℕ) (c d : Configuration) (first second : ℕ)
+    ensures second_stays { (g : EventGraph) (seed : ℕ) (c d : Configuration) (first second : ℕ)
         (a b : Entry)
         → Simultaneous g c.pending first second a b → in_conflict g a.vertex b.vertex ≡ false
         → perform g seed c first ≡ Some (Ok d) → StaysPending g seed c first second b d }

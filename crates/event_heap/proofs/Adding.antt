@@ -6,12 +6,12 @@ use Rattle.std.proofs.lemmas.List.{map-set, length-set, length-map, get_or_appen
 use Rattle.event_heap.specs.declared.node.Item.{Item}
 use Rattle.event_heap.specs.declared.node.Node.{Node}
 use Rattle.event_heap.specs.Inner.Tree.{Tree, Leaf, Fork, leftist_rank, times_in, merged_heap}
-use Rattle.event_heap.specs.Inner.Stands.{no_node, node_at, item_at, items_of, TreesApart, IsRebuilt}
+use Rattle.event_heap.specs.Inner.NodeTrees.{no_node, node_at, item_at, items_of, TreesApart, IsRebuilt}
 use Rattle.event_heap.specs.Inner.Listed.{placed, in_order}
 use Rattle.event_heap.specs.Inner.Forest.{occurs, FreeChain, root_at, IsHeapOf, Forest}
 use Rattle.event_heap.specs.Inner.Claimed.{lone_node, IsClaimed}
 use Rattle.event_heap.proofs.TreeLaws.{times_in-merged, heap-merged, every-merged}
-use Rattle.event_heap.proofs.StandsLaws.{stands-along}
+use Rattle.event_heap.proofs.NodeTreeLaws.{tree-along}
 use Rattle.event_heap.proofs.ListedLaws.{IsNew, in_order-set, in_order-push}
 use Rattle.event_heap.proofs.ForestLaws.{item-there, chain-kept, changed, changed-same, changed-other, separate, held_not_free, item-listed, item-same, some_none}
 
@@ -89,17 +89,17 @@ claim-facts old mid x (p ∷ ps) (Some j) later i new c once h =
     let set_at : mid ≡ set old p (lone_node x) = h.2 ∙ ap (λ j. set old j (lone_node x)) (c.0) in
     (ps, rw (same, at) (reused-facts old mid x p ps new c.1 c.2 c.3 once set_at))
 
-module _ (old mid : List Node) (roots : List (Option ℕ)) (free later : Option ℕ) (trees : ℕ → Tree) (chain fewer : List ℕ) (v i : ℕ) (x : Item) (f : Forest old roots free trees chain) (own : x.entry.vertex ≡ v) (known : v < length roots) (number : HasNewNumber x old) (k : ClaimFacts old mid x chain fewer later i) where
+module _ (old mid : List Node) (roots : List (Option ℕ)) (free later : Option ℕ) (trees : ℕ → Tree) (chain fewer : List ℕ) (v i : ℕ) (x : Item) (f : Forest old roots free trees chain) (own : x.entry.vertex ≡ v) (v_there : v < length roots) (number : HasNewNumber x old) (k : ClaimFacts old mid x chain fewer later i) where
   not_held : (u : ℕ) → times_in i (trees u) ≡ 0
   not_held u = by (cases_lt 0 (times_in i (trees u))) where
     by : (0 < times_in i (trees u)) ⊎ (times_in i (trees u) ≤ 0) → times_in i (trees u) ≡ 0
-    by (inl m) = let (y, e) = item-there old (trees u) (root_at roots u) i (f.heaps u).stands m in absurd (some_none (item_at old i) y e k.empty)
+    by (inl m) = let (y, e) = item-there old (trees u) (root_at roots u) i (f.heaps u).is_tree m in absurd (some_none (item_at old i) y e k.empty)
     by (inr z) = omega arith
 
   -- the heap of the vertex and the new node have no node in common
   pub apart-added : leftist_rank (trees v) + 1 < 2 ^ 32 → TreesApart mid (trees v) (Fork i x Leaf Leaf) (root_at roots v) (Some i)
   apart-added ranks = record {
-    one = stands-along old mid (trees v) (root_at roots v) k.longer (λ q m. k.others q (λ s. absurd (omega (arith, subst (λ q. 0 < times_in q (trees v)) s m, not_held v)))) (f.heaps v).stands;
+    one = tree-along old mid (trees v) (root_at roots v) k.longer (λ q m. k.others q (λ s. absurd (omega (arith, subst (λ q. 0 < times_in q (trees v)) s m, not_held v)))) (f.heaps v).is_tree;
     other = (refl, record { within = k.there; item = ap (λ n. n.item) k.node; rank_is = ap (λ n. n.rank) k.node; left_rank_is = ap (λ n. n.left_rank) k.node }, rw k.node tt, rw k.node tt);
     apart = λ q. by q (cases_eq q i);
     ranks = ranks;
@@ -126,7 +126,7 @@ module _ (old mid : List Node) (roots : List (Option ℕ)) (free later : Option 
 
     heap_grown : IsHeapOf new v (merged_heap (trees v) (Fork i x Leaf Leaf)) root
     heap_grown = record {
-      stands = b.stands;
+      is_tree = b.is_tree;
       heap = heap-merged (trees v) (Fork i x Leaf Leaf) (f.heaps v).heap (tt, tt, omega arith, tt, tt);
       once = λ q. by q (cases_eq q i);
       own = every-merged (λ y. y.entry.vertex ≡ v) (trees v) (Fork i x Leaf Leaf) (f.heaps v).own (own, tt, tt);
@@ -139,9 +139,9 @@ module _ (old mid : List Node) (roots : List (Option ℕ)) (free later : Option 
     heap_beside u ne =
         let h = f.heaps u in
         record {
-          stands = stands-along old new (trees u) (root_at roots u) longer
+          is_tree = tree-along old new (trees u) (root_at roots u) longer
               (λ q m. far q (λ s. absurd (omega (arith, subst (λ q. 0 < times_in q (trees u)) s m, not_held u))) (separate old u v (trees u) (trees v) (root_at roots u) (root_at roots v) q h (f.heaps v) ne m))
-              h.stands;
+              h.is_tree;
           heap = h.heap;
           once = h.once;
           own = h.own;
@@ -152,7 +152,7 @@ module _ (old mid : List Node) (roots : List (Option ℕ)) (free later : Option 
       by : (u ≡ v) ⊎ (u ≢ v) → IsHeapOf new u (changed trees v (merged_heap (trees v) (Fork i x Leaf Leaf)) u) (root_at (set roots v root) u)
       by (inl s) =
           subst (λ u. IsHeapOf new u (changed trees v (merged_heap (trees v) (Fork i x Leaf Leaf)) u) (root_at (set roots v root) u)) (sym s)
-          (rw (changed-same trees v v (merged_heap (trees v) (Fork i x Leaf Leaf)) refl, get_or-set_same roots v root None known) heap_grown)
+          (rw (changed-same trees v v (merged_heap (trees v) (Fork i x Leaf Leaf)) refl, get_or-set_same roots v root None v_there) heap_grown)
       by (inr ne) = rw (changed-other trees v u (merged_heap (trees v) (Fork i x Leaf Leaf)) ne, get_or-set_other roots v u root None ne) (heap_beside u ne)
 
     was_there : (q : ℕ) (y : Item) → q ≢ i → item_at new q ≡ Some y → item_at old q ≡ Some y
@@ -163,7 +163,7 @@ module _ (old mid : List Node) (roots : List (Option ℕ)) (free later : Option 
     forest-added = record {
       heaps = heap_each;
       chained = chain-kept old new fewer later longer
-          (λ q m. far q (λ s. absurd (omega (arith, subst (λ q. 0 < occurs q fewer) s m, k.left_out))) (held_not_free old chain free (trees v) (root_at roots v) q f.chained (f.heaps v).stands (omega (arith, k.less q))))
+          (λ q m. far q (λ s. absurd (omega (arith, subst (λ q. 0 < occurs q fewer) s m, k.left_out))) (held_not_free old chain free (trees v) (root_at roots v) q f.chained (f.heaps v).is_tree (omega (arith, k.less q))))
           k.chained;
       once = λ q. omega (arith, k.less q, f.once q);
       held = λ q y g. by_held q y g (cases_eq q i);

@@ -4,10 +4,10 @@ use Rattle.std.proofs.lemmas.Bool.Decides.{nat_tests}
 use Rattle.event_heap.specs.declared.node.Item.{Item}
 use Rattle.event_heap.specs.declared.node.Node.{Node}
 use Rattle.event_heap.specs.Inner.Tree.{Tree, Leaf, Fork, leftist_rank, times_in, precedes, merged_heap, heap_over}
-use Rattle.event_heap.specs.Inner.Stands.{no_node, node_at, item_at, rank_at, IsFork, IsTreeFrom, TreesApart, IsRebuilt}
+use Rattle.event_heap.specs.Inner.NodeTrees.{no_node, node_at, item_at, rank_at, IsFork, IsTreeFrom, TreesApart, IsRebuilt}
 use Rattle.event_heap.specs.Inner.Seated.{hung, seated, CanCompare}
 use Rattle.event_heap.proofs.TreeLaws.{times_in-merged, leftist_rank-merged, second_over, first_over}
-use Rattle.event_heap.proofs.StandsLaws.{rank_at-stands, IsHung, hung_by_set, hung_already, hung_is_tree, seat-rebuilds}
+use Rattle.event_heap.proofs.NodeTreeLaws.{rank_at-tree, IsHung, hung_by_set, hung_already, hung_is_tree, seat-rebuilds}
 
 -- a tree, read from its node on
 pub record Opened (nodes : List Node) (p : ℕ) (t : Tree) (x : Item) (l r : Tree) : Type 0 where
@@ -26,12 +26,12 @@ some_is : (nodes : List Node) (i : ℕ) (x : Item) → item_at nodes i ≡ Some 
 some_is nodes i x e = rw e refl
 
 pub rebuilt_none : (nodes : List Node) (s t : Tree) (b : Option ℕ) → TreesApart nodes s t None b → IsRebuilt nodes nodes (merged_heap s t) b
-rebuilt_none nodes Leaf t b h = record { stands = h.other; others = λ p e. refl; count = refl; items = refl }
+rebuilt_none nodes Leaf t b h = record { is_tree = h.other; others = λ p e. refl; count = refl; items = refl }
 rebuilt_none nodes (Fork p x l r) t b h = absurd h.one
 
 pub rebuilt_alone : (nodes : List Node) (s t : Tree) (a : Option ℕ) → TreesApart nodes s t a None → IsRebuilt nodes nodes (merged_heap s t) a
-rebuilt_alone nodes Leaf Leaf a h = record { stands = h.one; others = λ p e. refl; count = refl; items = refl }
-rebuilt_alone nodes (Fork p x l r) Leaf a h = record { stands = h.one; others = λ p e. refl; count = refl; items = refl }
+rebuilt_alone nodes Leaf Leaf a h = record { is_tree = h.one; others = λ p e. refl; count = refl; items = refl }
+rebuilt_alone nodes (Fork p x l r) Leaf a h = record { is_tree = h.one; others = λ p e. refl; count = refl; items = refl }
 rebuilt_alone nodes s (Fork p x l r) a h = absurd h.other
 
 -- where both have roots the one that comes first is on top
@@ -86,8 +86,8 @@ module _ (nodes : List Node) (s t : Tree) (i j : ℕ) where
   pub apart_hung : (at : List Node) (right : ℕ) → Some right ≡ (node_at nodes i).right → TreesApart nodes s t (Some i) (Some j) → IsHung nodes at i j → (r : Tree) × TreesApart at t r (Some j) (Some right) × (leftist_rank s ≡ suc (leftist_rank r))
   apart_hung at right e h k =
       let (x, l, r, o, apart, no_r, no_t) = apart_first (Some j) h in
-      let right_stands : IsTreeFrom nodes r (Some right) = subst (λ (a : Option ℕ). IsTreeFrom nodes r a) (sym e) apart.one in
-      (r, record { one = hung_is_tree nodes at i j t (Some j) k no_t h.other; other = hung_is_tree nodes at i j r (Some right) k no_r right_stands; apart = λ p. omega (arith, apart.apart p); ranks = omega (arith, apart.ranks) }, ap leftist_rank o.is)
+      let right_tree : IsTreeFrom nodes r (Some right) = subst (λ (a : Option ℕ). IsTreeFrom nodes r a) (sym e) apart.one in
+      (r, record { one = hung_is_tree nodes at i j t (Some j) k no_t h.other; other = hung_is_tree nodes at i j r (Some right) k no_r right_tree; apart = λ p. omega (arith, apart.apart p); ranks = omega (arith, apart.ranks) }, ap leftist_rank o.is)
 
 -- a heap was hung on the right of a root
 pub hung_on : (nodes at : List Node) (s t : Tree) (i j : ℕ) → TreesApart nodes s t (Some i) (Some j) → at ≡ set nodes i (hung (node_at nodes i) j) → IsHung nodes at i j
@@ -110,7 +110,7 @@ below_none nodes at s t i j e k h =
       by : (r : Tree) → IsTreeFrom nodes r None → IsRebuilt at at (merged_heap r t) (Some j)
       by Leaf none =
           let (x, l, r, o, apart, no_r, no_t) = apart_first nodes s t i j (Some j) h in
-          record { stands = hung_is_tree nodes at i j t (Some j) k no_t h.other; others = λ p z. refl; count = refl; items = refl }
+          record { is_tree = hung_is_tree nodes at i j t (Some j) k no_t h.other; others = λ p z. refl; count = refl; items = refl }
       by (Fork p x l r) none = absurd none
 
 -- the other heap's root comes first
@@ -134,7 +134,7 @@ module _ (nodes at mid : List Node) (s t : Tree) (i j below c : ℕ) (h : TreesA
 
   module _ (rank : c ≡ (node_at mid below).rank) where
     rank_is : c ≡ leftist_rank (merged_heap k.right t)
-    rank_is = rank ∙ rank_at-stands mid (merged_heap k.right t) (Some below) k.built.stands
+    rank_is = rank ∙ rank_at-tree mid (merged_heap k.right t) (Some below) k.built.is_tree
 
     -- a rank one higher fits
     pub seat_fits : c + 1 < 2 ^ 32
@@ -159,12 +159,12 @@ module _ (nodes : List Node) (s t : Tree) (i j right : ℕ) (e : Some right ≡ 
   pub less_hung : (at : List Node) (n : ℕ) → IsHung nodes at i j → rank_at nodes (Some i) + rank_at nodes (Some j) ≡ n → rank_at at (Some j) + rank_at at (Some right) < n
   less_hung at n k is =
       let (r, inner, whole) = apart_hung nodes s t i j at right e h k in
-      omega (arith, is, whole, rank_at-stands nodes s (Some i) h.one, rank_at-stands nodes t (Some j) h.other, rank_at-stands at t (Some j) inner.one, rank_at-stands at r (Some right) inner.other)
+      omega (arith, is, whole, rank_at-tree nodes s (Some i) h.one, rank_at-tree nodes t (Some j) h.other, rank_at-tree at t (Some j) inner.one, rank_at-tree at r (Some right) inner.other)
 
   pub less_kept : (n : ℕ) → rank_at nodes (Some i) + rank_at nodes (Some j) ≡ n → rank_at nodes (Some right) + rank_at nodes (Some j) < n
   less_kept n is =
       let (r, inner, whole) = apart_right nodes s t i j right e h in
-      omega (arith, is, whole, rank_at-stands nodes s (Some i) h.one, rank_at-stands nodes r (Some right) inner.one)
+      omega (arith, is, whole, rank_at-tree nodes s (Some i) h.one, rank_at-tree nodes r (Some right) inner.one)
 
   -- and takes fewer comparisons
   pub ticks_hung : (at : List Node) (start mid end : ℕ) → IsHung nodes at i j → mid ≡ start + 1 → ((s t : Tree) → TreesApart at s t (Some j) (Some right) → end + 1 ≤ mid + (leftist_rank s + leftist_rank t)) → end + 1 ≤ start + (leftist_rank s + leftist_rank t)

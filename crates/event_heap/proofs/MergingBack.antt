@@ -6,11 +6,11 @@ use Rattle.std.proofs.lemmas.List.{length-set}
 use Rattle.event_heap.specs.declared.node.Item.{Item}
 use Rattle.event_heap.specs.declared.node.Node.{Node}
 use Rattle.event_heap.specs.Inner.Tree.{Tree, Leaf, Fork, times_in, merged_heap}
-use Rattle.event_heap.specs.Inner.Stands.{no_node, node_at, item_at, TreesApart, IsRebuilt}
+use Rattle.event_heap.specs.Inner.NodeTrees.{no_node, node_at, item_at, TreesApart, IsRebuilt}
 use Rattle.event_heap.specs.Inner.Forest.{occurs}
 use Rattle.event_heap.specs.Inner.Aside.{Linked, IsSplit}
 use Rattle.event_heap.proofs.TreeLaws.{times_in-merged, heap-merged}
-use Rattle.event_heap.proofs.StandsLaws.{stands-kept, items-set}
+use Rattle.event_heap.proofs.NodeTreeLaws.{tree-kept, items-set}
 use Rattle.event_heap.proofs.ForestLaws.{node-there}
 use Rattle.event_heap.proofs.Sizes.{leftist_rank-small}
 use Rattle.event_heap.proofs.Weights.{reach, reach-length}
@@ -38,9 +38,9 @@ module _ (start now : List Node) (whole : ℕ → ℕ) (s : Tree) (p : ℕ) (ps 
 
   pub back-apart : TreesApart alone s (Fork p x Leaf Leaf) root (Some p)
   back-apart =
-      let bound = leftist_rank-small now s root q.stands q.heap_is (λ i. let a = q.parts i in let o = once i in omega arith) small in
+      let bound = leftist_rank-small now s root q.is_tree q.heap_is (λ i. let a = q.parts i in let o = once i in omega arith) small in
       record {
-        one = stands-kept now alone s root same_length (λ i m. elsewhere i (λ h. absurd (omega (arith, subst (λ i. 0 < times_in i s) h m, here_once.0)))) q.stands;
+        one = tree-kept now alone s root same_length (λ i m. elsewhere i (λ h. absurd (omega (arith, subst (λ i. 0 < times_in i s) h m, here_once.0)))) q.is_tree;
         other = (refl, record { within = omega (arith, there, same_length); item = ap (λ n. n.item) at_p ∙ event; rank_is = ap (λ n. n.rank) at_p; left_rank_is = ap (λ n. n.left_rank) at_p }, rw at_p tt, rw at_p tt);
         apart = λ i. let a = q.parts i in let o = once i in grind (arith, nat_tests);
         ranks = omega arith;
@@ -55,7 +55,7 @@ module _ (start now : List Node) (whole : ℕ → ℕ) (s : Tree) (p : ℕ) (ps 
 
     pub one-back : Linked now ps (node_at now p).left → IsSplit start new whole whole (merged_heap s (Fork p x Leaf Leaf)) ps after (node_at now p).left
     one-back linked = record {
-      stands = b.stands;
+      is_tree = b.is_tree;
       heap_is = heap-merged s (Fork p x Leaf Leaf) q.heap_is (tt, tt, omega arith, tt, tt);
       linked = linked-kept now new ps (node_at now p).left (b.count ∙ same_length)
           (λ i m. far i (λ h. absurd (omega (arith, subst (λ i. 0 < occurs i ps) h m, here_once.1))) (let a = q.parts i in let o = once i in omega arith)) linked;

@@ -6,7 +6,7 @@ use Rattle.std.specs.List.{AllByRecursion}
 use Rattle.event_list.specs.KeyOrder.{KeyParts, comes_before}
 use Rattle.model_core.specs.Run.Pending.{Entry, EntryAndRest, is_of, next_or_first, next_among, next_entry, without_next}
 use Rattle.model_core.proofs.EachOne.{every-map}
-use Rattle.event_list.specs.Told.{first_of}
+use Rattle.event_list.specs.FirstOfEntry.{first_of}
 use Rattle.event_heap.specs.declared.node.Item.{Item}
 use Rattle.event_heap.specs.Inner.Tree.{key_of, precedes}
 use Rattle.event_heap.specs.Inner.Listed.{placed, entries_of}
@@ -127,13 +127,13 @@ first_shown-entry None e h = cc
 first_shown-entry (Some n) e h = let is : n.entry ≡ e = cc in ap (λ e. Some (first_of e)) (sym is)
 
 -- where an entry is pending there is a next one
-next-behind : (e : Entry) (es : List Entry) (o : Option EntryAndRest) → IsSome (next_or_first e es o)
-next-behind e es None = refl
-next-behind e es (Some n) = refl
+next_or_first-some : (e : Entry) (es : List Entry) (o : Option EntryAndRest) → IsSome (next_or_first e es o)
+next_or_first-some e es None = refl
+next_or_first-some e es (Some n) = refl
 
 pub next-there : (es : List Entry) → length es ≢ 0 → IsSome (next_entry es)
 next-there [] h = absurd (h refl)
-next-there (e ∷ es) h = next-behind e es (next_entry es)
+next-there (e ∷ es) h = next_or_first-some e es (next_entry es)
 
 -- ---- a new event
 

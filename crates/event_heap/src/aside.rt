@@ -4,7 +4,7 @@ ghost use Rattle.std.specs.Prelude.{◌≡◌, ℕ, ◌<◌, ◌^◌, List, leng
 ghost use Rattle.model_core.specs.Run.Pending.{same_values};
 ghost use Rattle.event_heap.specs.declared.node.Item.{Item as Event};
 ghost use Rattle.event_heap.specs.Inner.Tree.{Tree};
-ghost use Rattle.event_heap.specs.Inner.Stands.{node_at, item_at};
+ghost use Rattle.event_heap.specs.Inner.NodeTrees.{node_at, item_at};
 ghost use Rattle.event_heap.specs.Inner.Forest.{IsHeapOf};
 ghost use Rattle.event_heap.specs.Inner.Aside.{CanMergeBack, IsSearched, IsWhole};
 

@@ -1,7 +1,7 @@
 //! The free nodes, chained through their left numbers.
 
 ghost use Rattle.std.specs.Prelude.{◌≡◌, ◌<◌, ◌≤◌, ◌++◌, ◌∷◌, [], length, slice_set, Some, None, IfSome, vec_len, vec_capacity};
-ghost use Rattle.event_heap.specs.Inner.Stands.{node_at};
+ghost use Rattle.event_heap.specs.Inner.NodeTrees.{node_at};
 ghost use Rattle.event_heap.specs.Inner.Claimed.{IsClaimed, lone_node, freed};
 
 use crate::node::Node;

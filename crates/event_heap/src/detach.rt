@@ -4,7 +4,7 @@ ghost use Rattle.std.specs.Prelude.{◌≡◌, ℕ, ◌<◌, ◌^◌, length, So
 ghost use Rattle.model_core.specs.Run.Pending.{is_of};
 ghost use Rattle.event_heap.specs.Inner.Tree.{Tree};
 ghost use Rattle.event_heap.specs.Inner.Listed.{events_of};
-ghost use Rattle.event_heap.specs.Inner.Stands.{node_at};
+ghost use Rattle.event_heap.specs.Inner.NodeTrees.{node_at};
 ghost use Rattle.event_heap.specs.Inner.Forest.{IsHeapOf};
 ghost use Rattle.event_heap.specs.Inner.Detached.{Detaches};
 ghost use Rattle.event_heap.specs.Inner.Held.{IsQuickFor};

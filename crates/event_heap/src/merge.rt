@@ -2,7 +2,7 @@
 
 ghost use Rattle.std.specs.Prelude.{◌≡◌, ◌+◌, ◌<◌, ◌≤◌, ◌^◌, length, slice_set, Some};
 ghost use Rattle.event_heap.specs.Inner.Tree.{Tree, leftist_rank, heap_over, merged_heap};
-ghost use Rattle.event_heap.specs.Inner.Stands.{node_at, TreesApart, IsRebuilt};
+ghost use Rattle.event_heap.specs.Inner.NodeTrees.{node_at, TreesApart, IsRebuilt};
 ghost use Rattle.event_heap.specs.Inner.Seated.{hung, seated};
 
 use crate::node::{Node, comes_first};

@@ -2,9 +2,9 @@
 
 ghost use Rattle.std.specs.Prelude.{◌≡◌, ◌+◌, Some};
 ghost use Rattle.event_heap.specs.declared.node.Item.{Item as Event};
-ghost use Rattle.event_list.specs.Told.{first_of};
+ghost use Rattle.event_list.specs.FirstOfEntry.{first_of};
 ghost use Rattle.event_heap.specs.Inner.Tree.{key_of, precedes};
-ghost use Rattle.event_heap.specs.Inner.Stands.{item_at};
+ghost use Rattle.event_heap.specs.Inner.NodeTrees.{item_at};
 ghost use Rattle.event_heap.specs.Inner.Seated.{CanCompare};
 
 use crate::slot::Slot;

@@ -81,9 +81,9 @@ fn replay_alone(heaps: &Heaps, tournament: &mut Tournament, vertex: usize)
     }
 }
 
-/// The same, where it is known whether another vertex has an event.
+/// The same, by whether another vertex has an event.
 #[inline(always)]
-fn replay_known<L: Ledger>(
+fn replay_either_way<L: Ledger>(
     heaps: &Heaps,
     tournament: &mut Tournament,
     vertex: usize,
@@ -116,7 +116,7 @@ fn play_first<L: Ledger>(
     number: u64,
     steps: &mut Steps<L>,
 )
-    requires known { entry.now.vertex < length tournament.old }
+    requires vertex_exists { entry.now.vertex < length tournament.old }
     ensures keys { tournament.new
         ≡ slice_set tournament.old entry.now.vertex
         (Some (key_of (record { number = number; entry = entry.now }))) }
@@ -137,7 +137,7 @@ fn replay_added<L: Ledger>(
     is_alone: bool,
     steps: &mut Steps<L>,
 )
-    requires known { entry.now.vertex < length tournament.old }
+    requires vertex_exists { entry.now.vertex < length tournament.old }
     requires games { (u : ℕ) → u ≢ entry.now.vertex
         → slice_index_or tournament.old u None ≡ option_map key_of (top_of heaps.now u) }
     requires leads { leads ≡ true
@@ -224,7 +224,7 @@ impl Pending for HeapPending {
     fn schedule<L: Ledger>(&mut self, entry: &Entry, steps: &mut Steps<L>)
         requires spare { 0 < self.old.spare }
         requires countable { self.old.numbered < 2 ^ 62 }
-        requires known { entry.now.vertex < self.old.vertices }
+        requires vertex_exists { entry.now.vertex < self.old.vertices }
         ensures entries { self.new.entries ≡ self.old.entries ++ entry.now ∷ [] }
         ensures spare { self.old.spare ≤ self.new.spare + 1 }
         ensures room { self.old.spare + length self.old.entries
@@ -303,7 +303,7 @@ impl Pending for HeapPending {
         }
         self.heaps.show_firsts();
         let was_last = self.heaps.count() == 0;
-        replay_known(&self.heaps, &mut self.tournament, vertex, was_last, steps);
+        replay_either_way(&self.heaps, &mut self.tournament, vertex, was_last, steps);
     }
 
     /// Deletes the next event of a vertex, by few comparisons of keys, and answers how many were deleted.

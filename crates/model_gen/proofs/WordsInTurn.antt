@@ -25,6 +25,6 @@ moved_on-vertex seed place = let three : 3 * place + 3 ≡ 3 * (place + 1) = ome
 pub by_next_words : (seed vertices place : ℕ) (s : WordsTaken) (x form z : ℕ) → s ≡ moved_on seed (3 * place)
     → x ≡ picked_below s.seed (slice_index_or s.taken 54 0) 8 → form ≡ picked_below s.seed (slice_index_or s.taken 54 0 + 1) 4 → z ≡ picked_below s.seed (slice_index_or s.taken 54 0 + 2) vertices
     → vertex_by vertices place x form z ≡ generated_vertex seed vertices place
-by_next_words seed vertices place s x form z stands counter edges target =
+by_next_words seed vertices place s x form z stream_now counter edges target =
     (λ i. vertex_by vertices place (counter i) (edges i) (target i))
-    ∙ ap (λ t. vertex_by vertices place (picked_below t.seed (slice_index_or t.taken 54 0) 8) (picked_below t.seed (slice_index_or t.taken 54 0 + 1) 4) (picked_below t.seed (slice_index_or t.taken 54 0 + 2) vertices)) stands
+    ∙ ap (λ t. vertex_by vertices place (picked_below t.seed (slice_index_or t.taken 54 0) 8) (picked_below t.seed (slice_index_or t.taken 54 0 + 1) 4) (picked_below t.seed (slice_index_or t.taken 54 0 + 2) vertices)) stream_now

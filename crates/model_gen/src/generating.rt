@@ -17,7 +17,7 @@ use std::alloc::Global;
 /// same model.
 pub fn generate(alloc: Global, seed: u64, vertices: usize) -> Result<Model, NoMemory>
     requires some { 1 ≤ vertices }
-    requires few { vertices ≤ 500 }
+    requires few_vertices { vertices ≤ 500 }
     ensures made { IfOk result (λ model. graph_of model ≡ generated seed vertices) }
     ensures valid { IfOk result (λ model. IsValid (graph_of model)) }
 {

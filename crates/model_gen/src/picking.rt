@@ -18,7 +18,7 @@ pub(crate) struct Picks {
 /// A number below `count`, by the next word.
 fn pick_below(streams: &mut Streams, count: usize) -> usize
     requires some { 0 < count }
-    requires few { count ≤ 2 ^ 32 }
+    requires count_fits { count ≤ 2 ^ 32 }
     requires countable { slice_index_or streams.old.taken 54 0 < 2 ^ 62 }
     ensures value { result ≡ share (next_word streams.old 54) count }
     ensures moved { streams.new ≡ after_word streams.old 54 }
@@ -29,7 +29,7 @@ fn pick_below(streams: &mut Streams, count: usize) -> usize
 /// The picks of the next three words for a vertex, of so many vertices.
 pub(crate) fn next_picks(streams: &mut Streams, vertices: usize) -> Picks
     requires some { 0 < vertices }
-    requires few { vertices ≤ 2 ^ 32 }
+    requires few_vertices { vertices ≤ 2 ^ 32 }
     requires there { 54 < length streams.old.taken }
     requires countable { slice_index_or streams.old.taken 54 0 < 2 ^ 61 }
     ensures counter { result.counter

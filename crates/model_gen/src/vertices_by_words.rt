@@ -80,7 +80,7 @@ pub(crate) fn vertices_by_words(
     seed: u64,
     vertices: usize,
 ) -> Result<List<Vertex>, NoMemory>
-    requires few { vertices ≤ 2 ^ 32 }
+    requires few_vertices { vertices ≤ 2 ^ 32 }
     ensures { IfOk result
         (λ made. map vertex_of made
         ≡ map (generated_vertex seed vertices) (range_with_len 0 vertices)) }

@@ -1,7 +1,7 @@
 -- The pending list and the streams after edges: what stays, and that edges can be treated again.
 use Rattle.std.proofs.Common.{◌≡◌, ℕ, ◌+◌, ◌≤◌, ◌<◌, ◌^◌, List, Option, refl, sym, ◌∙◌, subst, arith}
 use Rattle.std.specs.Prelude.{IsTrue, length}
-use Rattle.sig_base.specs.declared.limits.TheConstants.{CHANGES_MAX, EDGES_MAX}
+use Rattle.sig_base.specs.declared.limits.TheConstants.{CHANGES_MAX, EDGES_MAX, EVENTS_MAX}
 use Rattle.model_core.specs.declared.model.Model.{Model}
 use Rattle.model_core.specs.EventGraph.{EventGraph}
 use Rattle.model_core.specs.Run.Changes.{taken_from}
@@ -9,7 +9,7 @@ use Rattle.model_core.specs.Run.Pending.{Entry}
 use Rattle.model_core.specs.Run.State.{State, in_range}
 use Rattle.model_core.specs.Run.Step.{Fault}
 use Rattle.run_control.specs.Running.{Running}
-use Rattle.run_control.specs.SoundRun.{SoundRun, Known}
+use Rattle.run_control.specs.SoundRun.{SoundRun, AreOfVertices}
 use Rattle.run_control.specs.Turns.{StepKeeps}
 use Rattle.run_control.specs.Inner.Planning.{Planning, CanPlan, PlanKeeps}
 
@@ -21,7 +21,7 @@ kept_then a b c m n o p q r first second words events = record {
   numbered = omega (arith, events, first.numbered, second.numbered);
   room = omega (arith, first.room, second.room);
   vertices = second.vertices ∙ first.vertices;
-  known = λ all. second.known (first.known all);
+  of_vertices = λ all. second.of_vertices (first.of_vertices all);
 }
 
 -- where words are taken alone
@@ -33,20 +33,20 @@ words_taken words view p seed taken is same counted = subst (λ (x : Planning). 
   numbered = omega arith;
   room = omega arith;
   vertices = refl;
-  known = λ all. all;
+  of_vertices = λ all. all;
 })
 
 -- where the pending list changes alone
 pub pending_changed : (words events : ℕ) (view p : Planning) (pending : List Entry) (spare numbered vertices : ℕ) → view ≡ p → numbered ≤ view.numbered + events → view.spare + length view.planned.pending ≤ spare + length pending → vertices ≡ view.vertices
-    → (Known view.vertices view.planned.pending → Known view.vertices pending) → PlanKeeps words events p (record { seed = view.seed; planned = record view.planned { pending = pending }; spare = spare; numbered = numbered; vertices = vertices })
-pending_changed words events view p pending spare numbered vertices is few room same known =
+    → (AreOfVertices view.vertices view.planned.pending → AreOfVertices view.vertices pending) → PlanKeeps words events p (record { seed = view.seed; planned = record view.planned { pending = pending }; spare = spare; numbered = numbered; vertices = vertices })
+pending_changed words events view p pending spare numbered vertices is few room same kept =
     subst (λ (x : Planning). PlanKeeps words events x (record { seed = view.seed; planned = record view.planned { pending = pending }; spare = spare; numbered = numbered; vertices = vertices })) is (record {
       seed = refl;
       counted = λ stream. omega arith;
       numbered = few;
       room = room;
       vertices = same;
-      known = λ all. subst (λ n. Known n pending) (sym same) (known all);
+      of_vertices = λ all. subst (λ n. AreOfVertices n pending) (sym same) (kept all);
     })
 
 -- after edges, edges can be treated again
@@ -73,7 +73,7 @@ run_of m p s clock turns fault = record {
 
 module _ (g : EventGraph) (s : State) (p : Planning) (turns : ℕ) (sound : SoundRun g s p.planned.taken turns p.numbered p.vertices p.planned.pending) where
   -- where the next event was taken off, its vertex can plan
-  pub sound_plans : (q : Planning) → turns < 2 ^ 40 → PlanKeeps 0 0 p q → CanPlan g (2 ^ 61) EDGES_MAX q
+  pub sound_plans : (q : Planning) → turns < EVENTS_MAX → PlanKeeps 0 0 p q → CanPlan g (2 ^ 61) EDGES_MAX q
   sound_plans q few kept = record {
     made_for = kept.vertices ∙ sound.made_for;
     few_taken = λ stream. omega (arith, few, sound.words stream, kept.counted stream);
@@ -91,7 +91,7 @@ module _ (g : EventGraph) (s : State) (p : Planning) (turns : ℕ) (sound : Soun
         words = λ stream. omega (arith, sound.words stream, kept.counted stream);
         numbers = omega (arith, sound.numbers, kept.numbered);
         made_for = made_for;
-        known = subst (λ n. Known n r.planned.pending) made_for (kept.known (subst (λ n. Known n p.planned.pending) (sym sound.made_for) sound.known));
+        of_vertices = subst (λ n. AreOfVertices n r.planned.pending) made_for (kept.of_vertices (subst (λ n. AreOfVertices n p.planned.pending) (sym sound.made_for) sound.of_vertices));
       }
 
 -- the facts that a step keeps

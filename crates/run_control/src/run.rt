@@ -1,6 +1,7 @@
 //! A run of a model.
 
-ghost use Rattle.std.specs.Prelude.{◌≡◌, ◌+◌, ◌<◌, ◌≤◌, ◌^◌, [], length, IfOk, IfErr, IsOk, IsTrue, OnErr, None, slice_index_or};
+ghost use Rattle.std.specs.Prelude.{◌≡◌, ◌+◌, ◌<◌, ◌≤◌, [], length, IfOk, IfErr, IsOk, IsTrue, OnErr, None, slice_index_or};
+ghost use Rattle.sig_base.specs.declared.limits.TheConstants.{STOP_MAX, EVENTS_MAX};
 ghost use Rattle.model_core.specs.Run.State.{in_range};
 ghost use Rattle.model_core.specs.Run.Pending.{next_entry};
 ghost use Rattle.model_core.specs.Code.Views.{graph_of};
@@ -79,7 +80,7 @@ impl<'m, P: Pending> Run<'m, P> {
     ghost use Rattle.run_control.specs.Running.{next_shown};
     ghost use Rattle.std.specs.Prelude.{ℕ};
     ghost use Rattle.run_control.specs.PossibleModel.{PossibleModel};
-    ghost use Rattle.run_control.specs.SoundRun.{FewWords, FewScheduled, Known};
+    ghost use Rattle.run_control.specs.SoundRun.{FewWords, FewScheduled, AreOfVertices};
     ghost use Rattle.run_control.specs.Beginning.{BegunRun, RefusesStart};
     ghost use Rattle.run_control.specs.Turns.{Turns, IsNextTurn, StepKeeps, HasRoom, FitsRoom, IsDue};
 
@@ -144,7 +145,7 @@ impl<'m, P: Pending> Run<'m, P> {
         requires words { FewWords streams.taken turns }
         requires countable { FewScheduled (P.numbered pending) turns }
         requires made_for { P.vertices pending ≡ length model.now.vertices }
-        requires known { Known (length model.now.vertices) (P.entries pending) }
+        requires known { AreOfVertices (length model.now.vertices) (P.entries pending) }
         ensures { result ≡ record {
           model = model.now;
           seed = streams.seed;
@@ -181,7 +182,7 @@ impl<'m, P: Pending> Run<'m, P> {
         ensures numbered { P.numbered result.pending ≡ self.entry.numbered }
         ensures countable { FewScheduled (P.numbered result.pending) result.turns }
         ensures made_for { P.vertices result.pending ≡ length self.entry.model.vertices }
-        ensures known { Known (length self.entry.model.vertices) (P.entries result.pending) }
+        ensures known { AreOfVertices (length self.entry.model.vertices) (P.entries result.pending) }
         ensures turns { result.turns ≡ self.entry.turns }
     {
         let plans = self.plans;
@@ -236,7 +237,7 @@ impl<'m, P: Pending> Run<'m, P> {
         ensures numbered { P.numbered result.now ≡ self.now.numbered }
         ensures countable { FewScheduled (P.numbered result.now) self.now.turns }
         ensures made_for { P.vertices result.now ≡ length self.now.model.vertices }
-        ensures known { Known (length self.now.model.vertices) (P.entries result.now) }
+        ensures known { AreOfVertices (length self.now.model.vertices) (P.entries result.now) }
     {
         let plans = &self.plans;
         &plans.pending
@@ -246,8 +247,8 @@ impl<'m, P: Pending> Run<'m, P> {
     /// anything changes. The room for events, pending ones among them, never falls, so a step lacks memory only where the
     /// pending events and those that it may schedule are more than the room with which the run began.
     pub fn step<L: Ledger>(&mut self, until: u64, steps: &mut Steps<L>) -> Result<Turn, NoMemory>
-        requires soon { until ≤ 2 ^ 48 }
-        requires budget { self.old.turns < 2 ^ 40 }
+        requires soon { until ≤ STOP_MAX }
+        requires budget { self.old.turns < EVENTS_MAX }
         ensures ok { IfOk result (λ turn. Turns self.old until turn self.new self.old.faulted) }
         ensures err { OnErr result (self.new ≡ self.old) }
         ensures enough { HasRoom self.old (next_entry self.old.now.pending) → IsOk result }
@@ -278,9 +279,9 @@ impl<'m, P: Pending> Run<'m, P> {
         steps: &mut Steps<L>,
     ) -> Result<Turn, NoMemory>
         requires goes_on { self.old.faulted ≡ None }
-        requires told { next ≡ next_shown self.old None }
-        requires soon { until ≤ 2 ^ 48 }
-        requires budget { self.old.turns < 2 ^ 40 }
+        requires is_next { next ≡ next_shown self.old None }
+        requires soon { until ≤ STOP_MAX }
+        requires budget { self.old.turns < EVENTS_MAX }
         ensures ok { IfOk result
             (λ turn. IsNextTurn self.old until turn self.new (next_entry self.old.now.pending)) }
         ensures err { OnErr result (self.new ≡ self.old) }

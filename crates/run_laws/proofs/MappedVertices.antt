@@ -32,24 +32,24 @@ pub record BehavesAs (f : ℕ → ℕ) (v w : EventVertex) : Type 0 where
 
 -- a vertex that is watched is one of these
 abbrev pub WatchedAreApart : (ℕ → Type 0) → Watched → Type 0
-WatchedAreApart Told (WatchedVariable v) = Unit {0}
-WatchedAreApart Told (WatchedVertex v) = Told v
+WatchedAreApart SetApart (WatchedVariable v) = Unit {0}
+WatchedAreApart SetApart (WatchedVertex v) = SetApart v
 
 -- an edge that schedules leads to a live vertex, and one that cancels to one that keeps apart
-abbrev pub LeadsToMapped : (Live Told : ℕ → Type 0) → EdgeKind → ℕ → Type 0
-LeadsToMapped Live Told (Schedule delay priority) t = Live t
-LeadsToMapped Live Told Urgent t = Live t
-LeadsToMapped Live Told kind t = Told t
+abbrev pub LeadsToMapped : (Live SetApart : ℕ → Type 0) → EdgeKind → ℕ → Type 0
+LeadsToMapped Live SetApart (Schedule delay priority) t = Live t
+LeadsToMapped Live SetApart Urgent t = Live t
+LeadsToMapped Live SetApart kind t = SetApart t
 
 -- f maps each live vertex to one that does the same, and keeps those that are watched or cancelled apart from live ones
-pub record Mapping (g : EventGraph) (f : ℕ → ℕ) (vertices : List EventVertex) (Live Told : ℕ → Type 0) : Type 0 where
-  pub apart : (t : ℕ) → Told t → (k : ℕ) → Live k → (f k == f t) ≡ (k == t)
+pub record Mapping (g : EventGraph) (f : ℕ → ℕ) (vertices : List EventVertex) (Live SetApart : ℕ → Type 0) : Type 0 where
+  pub apart : (t : ℕ) → SetApart t → (k : ℕ) → Live k → (f k == f t) ≡ (k == t)
   pub does : (k : ℕ) → Live k → BehavesAs f (vertex_at g k) (slice_index_or vertices (f k) no_vertex)
-  pub names : (k : ℕ) → Told k → (vertex_at g k).name ≡ (slice_index_or vertices (f k) no_vertex).name
-  pub closed : (k : ℕ) → Live k → AllByRecursion (λ (e : EventEdge). LeadsToMapped Live Told e.kind e.target) (vertex_at g k).edges
+  pub names : (k : ℕ) → SetApart k → (vertex_at g k).name ≡ (slice_index_or vertices (f k) no_vertex).name
+  pub closed : (k : ℕ) → Live k → AllByRecursion (λ (e : EventEdge). LeadsToMapped Live SetApart e.kind e.target) (vertex_at g k).edges
   pub first : f 0 ≡ 0
   pub first_live : Live 0
-  pub watched : AllByRecursion (WatchedAreApart Told) g.watch
+  pub watched : AllByRecursion (WatchedAreApart SetApart) g.watch
 
 watched_values-mapped : (f : ℕ → ℕ) (watch : List Watched) (s : State) → watched_values (map (watched_renumbered f) watch) s ≡ watched_values watch s
 watched_values-mapped f [] s = refl
@@ -59,7 +59,7 @@ watched_values-mapped f (WatchedVertex v ∷ watch) s = watched_values-mapped f 
 pub turned : (a b : ℕ) → (a == b) ≡ (b == a)
 turned a b = grind (arith, nat_tests)
 
-module _ (g : EventGraph) (f : ℕ → ℕ) (vertices : List EventVertex) (Live Told : ℕ → Type 0) (ok : Mapping g f vertices Live Told) where
+module _ (g : EventGraph) (f : ℕ → ℕ) (vertices : List EventVertex) (Live SetApart : ℕ → Type 0) (ok : Mapping g f vertices Live SetApart) where
   abbrev h : EventGraph
   h = with_mapped g f vertices
 
@@ -81,17 +81,17 @@ module _ (g : EventGraph) (f : ℕ → ℕ) (vertices : List EventVertex) (Live 
 
   -- ---- edges
 
-  of-same : (t : ℕ) → Told t → (p : List Entry) → AllByRecursion LiveEntry p → AllByRecursion (λ e. is_of (f t) (r e) ≡ is_of t e) p
-  of-same t told p all = every-map LiveEntry (λ e. is_of (f t) (r e) ≡ is_of t e) (λ e live. ok.apart t told e.vertex live) p all
+  of-same : (t : ℕ) → SetApart t → (p : List Entry) → AllByRecursion LiveEntry p → AllByRecursion (λ e. is_of (f t) (r e) ≡ is_of t e) p
+  of-same t kept_apart p all = every-map LiveEntry (λ e. is_of (f t) (r e) ≡ is_of t e) (λ e live. ok.apart t kept_apart e.vertex live) p all
 
-  with-same : (t : ℕ) (values : List ℤ) → Told t → (p : List Entry) → AllByRecursion LiveEntry p → AllByRecursion (λ e. is_event_with (f t) values (r e) ≡ is_event_with t values e) p
-  with-same t values told p all = every-map LiveEntry (λ e. is_event_with (f t) values (r e) ≡ is_event_with t values e) (λ e live. ap (λ b. b && same_values e.values values) (ok.apart t told e.vertex live)) p all
+  with-same : (t : ℕ) (values : List ℤ) → SetApart t → (p : List Entry) → AllByRecursion LiveEntry p → AllByRecursion (λ e. is_event_with (f t) values (r e) ≡ is_event_with t values e) p
+  with-same t values kept_apart p all = every-map LiveEntry (λ e. is_event_with (f t) values (r e) ≡ is_event_with t values e) (λ e live. ap (λ b. b && same_values e.values values) (ok.apart t kept_apart e.vertex live)) p all
 
   scheduled-alongside : (time priority t : ℕ) (values : List ℤ) (taken : List ℕ) → Live t → (p : List Entry) → AllByRecursion LiveEntry p → Alongside Plans (Ok (record { pending = scheduled time priority t p values; taken = taken })) (Ok (record { pending = scheduled time priority (f t) (map r p) values; taken = taken }))
   scheduled-alongside time priority t values taken live p all =
       both_go (ap (λ (l : List Entry). record { pending = l; taken = taken }) (map-append r p _), every-append LiveEntry p _ all live)
 
-  act-alongside : (seed : ℕ) (s : State) (clk : ℕ) (e : EventEdge) (kind : EdgeKind) → LeadsToMapped Live Told kind e.target → (p : EdgeState) → AllByRecursion LiveEntry p.pending → Alongside Plans (act g seed s clk e kind p) (act h seed s clk (edge_renumbered f e) kind (planned_mapped p))
+  act-alongside : (seed : ℕ) (s : State) (clk : ℕ) (e : EventEdge) (kind : EdgeKind) → LeadsToMapped Live SetApart kind e.target → (p : EdgeState) → AllByRecursion LiveEntry p.pending → Alongside Plans (act g seed s clk e kind p) (act h seed s clk (edge_renumbered f e) kind (planned_mapped p))
   act-alongside seed s clk e (Schedule delay priority) may p all =
       bind-alongside-same Plans (delay_of g seed s clk delay p.taken) _ _ (λ wait a.
       bind-alongside-same Plans (carried_values g s clk e) _ _ (λ values c.
@@ -107,14 +107,14 @@ module _ (g : EventGraph) (f : ℕ → ℕ) (vertices : List EventVertex) (Live 
   act-alongside seed s clk e CancelAll may p all =
       both_go (ap (λ (l : List Entry). record p { pending = l }) (sym (without_all-mapped r (is_of e.target) (is_of (f e.target)) p.pending (of-same e.target may p.pending all))), without_all-every LiveEntry (is_of e.target) p.pending all)
 
-  treat_edge-mapped : (seed : ℕ) (s : State) (clk : ℕ) (e : EventEdge) → LeadsToMapped Live Told e.kind e.target → (p : EdgeState) → AllByRecursion LiveEntry p.pending → Alongside Plans (treat_edge g seed s clk e p) (treat_edge h seed s clk (edge_renumbered f e) (planned_mapped p))
+  treat_edge-mapped : (seed : ℕ) (s : State) (clk : ℕ) (e : EventEdge) → LeadsToMapped Live SetApart e.kind e.target → (p : EdgeState) → AllByRecursion LiveEntry p.pending → Alongside Plans (treat_edge g seed s clk e p) (treat_edge h seed s clk (edge_renumbered f e) (planned_mapped p))
   treat_edge-mapped seed s clk e may p all =
       bind-alongside-same Plans (value_of g s clk e.condition) _ _ (λ c a. tested (is_one c)) where
         tested : (b : Bool) → Alongside Plans (cond b (act g seed s clk e e.kind p) (Ok p)) (cond b (act h seed s clk (edge_renumbered f e) e.kind (planned_mapped p)) (Ok (planned_mapped p)))
         tested true = act-alongside seed s clk e e.kind may p all
         tested false = both_go (refl, all)
 
-  treat_edge-alongside : (seed : ℕ) (s : State) (clk : ℕ) (e : EventEdge) → LeadsToMapped Live Told e.kind e.target → (p q : EdgeState) → Plans p q → Alongside Plans (treat_edge g seed s clk e p) (treat_edge h seed s clk (edge_renumbered f e) q)
+  treat_edge-alongside : (seed : ℕ) (s : State) (clk : ℕ) (e : EventEdge) → LeadsToMapped Live SetApart e.kind e.target → (p q : EdgeState) → Plans p q → Alongside Plans (treat_edge g seed s clk e p) (treat_edge h seed s clk (edge_renumbered f e) q)
   treat_edge-alongside seed s clk e may p q (same, all) =
       subst (λ (q : EdgeState). Alongside Plans (treat_edge g seed s clk e p) (treat_edge h seed s clk (edge_renumbered f e) q)) same (treat_edge-mapped seed s clk e may p all)
 
@@ -126,11 +126,11 @@ module _ (g : EventGraph) (f : ℕ → ℕ) (vertices : List EventVertex) (Live 
   abbrev mapped : EventVertex → EventVertex
   mapped v = record v { edges = map (edge_renumbered f) v.edges }
 
-  mapped-alongside : (seed : ℕ) (v : EventVertex) → AllByRecursion (λ (e : EventEdge). LeadsToMapped Live Told e.kind e.target) v.edges → (n : EntryAndRest) → AllByRecursion LiveEntry n.others → (s : State) (taken : List ℕ) → Alongside Configurations (occur g seed v n s taken) (occur h seed (mapped v) (taken_off_mapped r n) s taken)
+  mapped-alongside : (seed : ℕ) (v : EventVertex) → AllByRecursion (λ (e : EventEdge). LeadsToMapped Live SetApart e.kind e.target) v.edges → (n : EntryAndRest) → AllByRecursion LiveEntry n.others → (s : State) (taken : List ℕ) → Alongside Configurations (occur g seed v n s taken) (occur h seed (mapped v) (taken_off_mapped r n) s taken)
   mapped-alongside seed v closed n live s taken =
       bind-alongside-same Configurations (receive g v.parameters n.entry.values s) _ _ (λ t a.
       bind-alongside-same Configurations (in_turn (make_change g seed n.entry.time) v.changes (record { state = t; taken = taken })) _ _ (λ d b.
-      bind-alongside Plans Configurations (in_turn-alongside (λ (e : EventEdge). LeadsToMapped Live Told e.kind e.target) (edge_renumbered f) Plans (treat_edge g seed d.state n.entry.time) (treat_edge h seed d.state n.entry.time) (λ e may p q plans. treat_edge-alongside seed d.state n.entry.time e may p q plans) v.edges closed (record { pending = n.others; taken = d.taken }) (record { pending = map r n.others; taken = d.taken }) (refl, live)) _ _ (λ p q (same, all).
+      bind-alongside Plans Configurations (in_turn-alongside (λ (e : EventEdge). LeadsToMapped Live SetApart e.kind e.target) (edge_renumbered f) Plans (treat_edge g seed d.state n.entry.time) (treat_edge h seed d.state n.entry.time) (λ e may p q plans. treat_edge-alongside seed d.state n.entry.time e may p q plans) v.edges closed (record { pending = n.others; taken = d.taken }) (record { pending = map r n.others; taken = d.taken }) (refl, live)) _ _ (λ p q (same, all).
       both_go (ap (λ (q : EdgeState). record { clock = n.entry.time; state = d.state; taken = q.taken; pending = q.pending }) same, all))))
 
   -- an event reads no name
@@ -139,16 +139,16 @@ module _ (g : EventGraph) (f : ℕ → ℕ) (vertices : List EventVertex) (Live 
 
   -- ---- what is watched
 
-  prefix-same : (v : ℕ) → Live v → (watch : List Watched) → AllByRecursion (WatchedAreApart Told) watch → prefix_len (λ w. not (watches (f v) w)) (map (watched_renumbered f) watch) ≡ prefix_len (λ w. not (watches v w)) watch
+  prefix-same : (v : ℕ) → Live v → (watch : List Watched) → AllByRecursion (WatchedAreApart SetApart) watch → prefix_len (λ w. not (watches (f v) w)) (map (watched_renumbered f) watch) ≡ prefix_len (λ w. not (watches v w)) watch
   prefix-same v live [] all = refl
   prefix-same v live (WatchedVariable w ∷ watch) (here, all) = ap (λ n. 1 + n) (prefix-same v live watch all)
   prefix-same v live (WatchedVertex w ∷ watch) (here, all) = ap₂ (λ (b : Bool) (n : ℕ). cond (not b) (1 + n) 0) (turned (f w) (f v) ∙ (ok.apart w here v live ∙ turned v w)) (prefix-same v live watch all)
 
-  position-same : (v : ℕ) → Live v → (watch : List Watched) → AllByRecursion (WatchedAreApart Told) watch → position (watches (f v)) (map (watched_renumbered f) watch) ≡ position (watches v) watch
+  position-same : (v : ℕ) → Live v → (watch : List Watched) → AllByRecursion (WatchedAreApart SetApart) watch → position (watches (f v)) (map (watched_renumbered f) watch) ≡ position (watches v) watch
   position-same v live watch all =
       ap₂ (λ (n len : ℕ). cond (nat_lt n len) (Some n) None) (prefix-same v live watch all) (length-map watch (watched_renumbered f))
 
-  things-same : (watch : List Watched) → AllByRecursion (WatchedAreApart Told) watch → map (watched_name_of g) watch ≡ map (watched_name_of h) (map (watched_renumbered f) watch)
+  things-same : (watch : List Watched) → AllByRecursion (WatchedAreApart SetApart) watch → map (watched_name_of g) watch ≡ map (watched_name_of h) (map (watched_renumbered f) watch)
   things-same [] all = refl
   things-same (WatchedVariable v ∷ watch) (here, all) = ap (λ ts. watched_name_of g (WatchedVariable v) ∷ ts) (things-same watch all)
   things-same (WatchedVertex v ∷ watch) (here, all) = ap₂ (λ t ts. t ∷ ts) (ap VertexNamed (ok.names v here)) (things-same watch all)

@@ -43,12 +43,12 @@ chosen-later x p k n false is all e =
 
 all_later : (p : List Entry) (n : EntryAndRest) → next_entry p ≡ Some n → NoneEarlier n.entry.time p
 all_later [] n e = cc
-all_later (x ∷ p) n e = behind (next_entry p) refl e (all_later p) where
-  behind : (o : Option EntryAndRest) → next_entry p ≡ o → next_or_first x p o ≡ Some n → ((k : EntryAndRest) → next_entry p ≡ Some k → NoneEarlier k.entry.time p) → NoneEarlier n.entry.time (x ∷ p)
-  behind None is e later =
+all_later (x ∷ p) n e = by_next (next_entry p) refl e (all_later p) where
+  by_next : (o : Option EntryAndRest) → next_entry p ≡ o → next_or_first x p o ≡ Some n → ((k : EntryAndRest) → next_entry p ≡ Some k → NoneEarlier k.entry.time p) → NoneEarlier n.entry.time (x ∷ p)
+  by_next None is e later =
       let same : record { entry = x; others = p } ≡ n = cc in
       subst (λ (n : EntryAndRest). NoneEarlier n.entry.time (x ∷ p)) same (omega arith, no_next-none x.time p is)
-  behind (Some k) is e later = chosen-later x p k n (sooner k.entry x) refl (later k is) e
+  by_next (Some k) is e later = chosen-later x p k n (sooner k.entry x) refl (later k is) e
 
 -- when the next event is taken off, none of the others is earlier
 pub others_later : (p : List Entry) (n : EntryAndRest) → next_entry p ≡ Some n → NoneEarlier n.entry.time n.others

@@ -62,11 +62,11 @@ pieces_set xs (p ∷ ps) from end (suc v) i x d h l m =
 pub written : {A : Type 0} (xs : List A) (spans : List Span) (v i : ℕ) (x : A) (p : Span) → Laid 0 spans (length xs) → p ≡ slice_index_or spans v p → v < length (pieces xs spans) → i < length (slice_index_or (pieces xs spans) v [])
     → pieces (slice_set xs (p.from + i) x) spans ≡ slice_set (pieces xs spans) v (slice_set (slice_index_or (pieces xs spans) v []) i x)
 written {A} xs spans v i x p h e l m =
-    let known : v < length spans = omega (arith, length-map spans (piece xs)) in
-    let cells : get_or (pieces xs spans) v [] ≡ piece xs (get_or spans v p) = get_or-map (piece xs) spans v p [] known in
+    let within : v < length spans = omega (arith, length-map spans (piece xs)) in
+    let cells : get_or (pieces xs spans) v [] ≡ piece xs (get_or spans v p) = get_or-map (piece xs) spans v p [] within in
     let m2 : i < length (piece xs (get_or spans v p)) = rw (← cells) m in
     let size : i < (get_or spans v p).size = omega (arith, length-take {A = A} (get_or spans v p).size (drop (get_or spans v p).from xs)) in
-    let w = pieces_set xs spans 0 (length xs) v i x p h known size in
+    let w = pieces_set xs spans 0 (length xs) v i x p h within size in
     ap (λ (q : Span). pieces (set xs (q.from + i) x) spans) e ∙ w ∙ ap (λ (ys : List A). set (pieces xs spans) v (set ys i x)) (sym cells)
 
 -- ---- a piece more at the end

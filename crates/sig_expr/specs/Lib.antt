@@ -1,3 +1,4 @@
 pub mod Outcomes
 pub mod Possible
+pub mod WatchedValues
 pub mod Inner

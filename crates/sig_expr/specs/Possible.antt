@@ -68,21 +68,21 @@ pub record PossibleLocation (g : EventGraph) (l : Location) : Type 0 where
 -- a draw from lo..hi
 pub record PossibleRange (lo hi : ℤ) : Type 0 where
   pub order : lo ≤ℤ hi
-  pub few : (hi -ℤ lo) <ℤ (pos (2 ^ 32))
+  pub few_values : (hi -ℤ lo) <ℤ (pos (2 ^ 32))
   pub low : (pos 0 -ℤ pos (2 ^ 62)) ≤ℤ lo
   pub high : hi ≤ℤ (pos (2 ^ 62))
 
 -- a draw by the table at this place
 pub record PossibleTable (g : EventGraph) (t : ℕ) : Type 0 where
   pub declared : t < length g.tables
-  pub few : sum (map (λ r. r.weight) (slice_index_or g.tables t no_table).rows) ≤ 2 ^ 32
+  pub small_sum : sum (map (λ r. r.weight) (slice_index_or g.tables t no_table).rows) ≤ 2 ^ 32
 
 -- the choice can be drawn from
 abbrev pub PossibleChoice : EventGraph → Choice → Type 0
 PossibleChoice g (Uniform lo hi) = PossibleRange lo hi
 PossibleChoice g (ByTable t) = PossibleTable g t
 
--- a `set` has as many targets as right sides, and few of them
+-- a `set` has as many targets as right sides, within the limit
 pub record PossibleSet (g : EventGraph) (targets : List Location) (rights : List Expression) : Type 0 where
   pub few : length rights ≤ TARGETS_MAX
   pub matched : length targets ≡ length rights
@@ -91,7 +91,7 @@ pub record PossibleSet (g : EventGraph) (targets : List Location) (rights : List
 
 -- a value can be drawn so from the stream
 pub record PossibleSource (g : EventGraph) (stream : ℕ) (choice : Choice) : Type 0 where
-  pub known : stream < 64
+  pub exists : stream < 64
   pub possible : PossibleChoice g choice
 
 -- the draw can be made and stored

@@ -1,7 +1,7 @@
 //! The changes of an event: what they do to the state, and which words they take.
 
 ghost use Rattle.std.specs.Prelude.{◌≡◌, ℕ, [], ◌∷◌, ◌+◌, ◌<◌, ◌≤◌, ◌^◌, All, IsTrue, length, map};
-ghost use Rattle.sig_base.specs.declared.limits.TheConstants.{CHANGES_MAX};
+ghost use Rattle.sig_base.specs.declared.limits.TheConstants.{CHANGES_MAX, STOP_MAX};
 ghost use Rattle.sig_base.specs.Stream.{word};
 ghost use Rattle.model_core.specs.EventGraph.{Set, Draw};
 ghost use Rattle.model_core.specs.Run.State.{in_range};
@@ -32,14 +32,14 @@ fn set_one(
     requires location { PossibleLocation (graph_of model.now) (location_of target.now) }
     requires expression { PossibleExpression (graph_of model.now) (expression_of right.now) }
     requires inside { IsTrue (in_range (graph_of model.now) state.old) }
-    requires soon { clk ≤ 2 ^ 48 }
+    requires soon { clk ≤ STOP_MAX }
     ensures sets { with_ok state.new result
         ≡ set_all (graph_of model.now) clk (location_of target.now ∷ [])
         (expression_of right.now ∷ []) state.old }
     ensures left { state.new
         ≡ left_by_set (graph_of model.now) clk (location_of target.now ∷ [])
         (expression_of right.now ∷ []) state.old }
-    ensures stays { IsTrue (in_range (graph_of model.now) state.new) }
+    ensures stays_in_range { IsTrue (in_range (graph_of model.now) state.new) }
 {
     let value = value(model, right, state, clk)?;
     let place = place(model, target, state, clk)?;
@@ -61,7 +61,7 @@ fn set_two(
     requires left { PossibleExpression (graph_of model.now) (expression_of left.now) }
     requires right { PossibleExpression (graph_of model.now) (expression_of right.now) }
     requires inside { IsTrue (in_range (graph_of model.now) state.old) }
-    requires soon { clk ≤ 2 ^ 48 }
+    requires soon { clk ≤ STOP_MAX }
     ensures sets { with_ok state.new result
         ≡ set_all (graph_of model.now) clk (location_of first.now ∷ location_of second.now ∷ [])
         (expression_of left.now ∷ expression_of right.now ∷ []) state.old }
@@ -69,7 +69,7 @@ fn set_two(
         ≡ left_by_set (graph_of model.now) clk
         (location_of first.now ∷ location_of second.now ∷ [])
         (expression_of left.now ∷ expression_of right.now ∷ []) state.old }
-    ensures stays { IsTrue (in_range (graph_of model.now) state.new) }
+    ensures stays_in_range { IsTrue (in_range (graph_of model.now) state.new) }
 {
     let one = value(model, left, state, clk)?;
     let other = value(model, right, state, clk)?;
@@ -90,14 +90,14 @@ fn set_several(
     requires possible { PossibleSet (graph_of model.now) (map location_of targets.now)
         (map expression_of rights.now) }
     requires inside { IsTrue (in_range (graph_of model.now) state.old) }
-    requires soon { clk ≤ 2 ^ 48 }
+    requires soon { clk ≤ STOP_MAX }
     ensures sets { with_ok state.new result
         ≡ set_all (graph_of model.now) clk (map location_of targets.now)
         (map expression_of rights.now) state.old }
     ensures left { state.new
         ≡ left_by_set (graph_of model.now) clk (map location_of targets.now)
         (map expression_of rights.now) state.old }
-    ensures stays { IsTrue (in_range (graph_of model.now) state.new) }
+    ensures stays_in_range { IsTrue (in_range (graph_of model.now) state.new) }
 {
     let mut values: ArrayVec<i64, TARGETS_MAX> = ArrayVec::new();
     put_values(model, rights, state, clk, &mut values)?;
@@ -117,14 +117,14 @@ fn set(
     requires possible { PossibleSet (graph_of model.now) (map location_of targets.now)
         (map expression_of rights.now) }
     requires inside { IsTrue (in_range (graph_of model.now) state.old) }
-    requires soon { clk ≤ 2 ^ 48 }
+    requires soon { clk ≤ STOP_MAX }
     ensures sets { with_ok state.new result
         ≡ set_all (graph_of model.now) clk (map location_of targets.now)
         (map expression_of rights.now) state.old }
     ensures left { state.new
         ≡ left_by_set (graph_of model.now) clk (map location_of targets.now)
         (map expression_of rights.now) state.old }
-    ensures stays { IsTrue (in_range (graph_of model.now) state.new) }
+    ensures stays_in_range { IsTrue (in_range (graph_of model.now) state.new) }
 {
     if let [target] = targets {
         if let [right] = rights {
@@ -170,7 +170,7 @@ fn draw(
         (choice_of choice) }
     requires inside { IsTrue (in_range (graph_of model.now) state.old) }
     requires countable { taken_from streams.old.taken stream < 2 ^ 62 }
-    requires soon { clk ≤ 2 ^ 48 }
+    requires soon { clk ≤ STOP_MAX }
     ensures makes { with_ok (record { state = state.new; taken = streams.new.taken }) result
         ≡ make_change (graph_of model.now) streams.old.seed clk
         (Draw (location_of target.now) stream (choice_of choice))
@@ -178,7 +178,7 @@ fn draw(
     ensures left { record { state = state.new; taken = streams.new.taken }
         ≡ left_by_draw (graph_of model.now) streams.old.seed clk (location_of target.now) stream
         (choice_of choice) (record { state = state.old; taken = streams.old.taken }) }
-    ensures stays { IsTrue (in_range (graph_of model.now) state.new) }
+    ensures stays_in_range { IsTrue (in_range (graph_of model.now) state.new) }
     ensures seed { streams.new.seed ≡ streams.old.seed }
     ensures counted { (stream : ℕ)
         → taken_from streams.new.taken stream ≤ taken_from streams.old.taken stream + 1 }
@@ -199,14 +199,14 @@ fn make(
     requires possible { PossibleChange (graph_of model.now) (change_of change.now) }
     requires inside { IsTrue (in_range (graph_of model.now) state.old) }
     requires countable { (stream : ℕ) → taken_from streams.old.taken stream < 2 ^ 62 }
-    requires soon { clk ≤ 2 ^ 48 }
+    requires soon { clk ≤ STOP_MAX }
     ensures makes { with_ok (record { state = state.new; taken = streams.new.taken }) result
         ≡ make_change (graph_of model.now) streams.old.seed clk (change_of change.now)
         (record { state = state.old; taken = streams.old.taken }) }
     ensures left { record { state = state.new; taken = streams.new.taken }
         ≡ left_by_change (graph_of model.now) streams.old.seed clk (change_of change.now)
         (record { state = state.old; taken = streams.old.taken }) }
-    ensures stays { IsTrue (in_range (graph_of model.now) state.new) }
+    ensures stays_in_range { IsTrue (in_range (graph_of model.now) state.new) }
     ensures seed { streams.new.seed ≡ streams.old.seed }
     ensures counted { (stream : ℕ)
         → taken_from streams.new.taken stream ≤ taken_from streams.old.taken stream + 1 }
@@ -236,18 +236,18 @@ pub fn apply(
     streams: &mut Streams,
     clk: u64,
 ) -> Result<(), FaultKind>
-    requires few { length changes.now ≤ CHANGES_MAX }
+    requires few_changes { length changes.now ≤ CHANGES_MAX }
     requires possible { All (PossibleChange (graph_of model.now)) (map change_of changes.now) }
     requires inside { IsTrue (in_range (graph_of model.now) state.old) }
     requires countable { (stream : ℕ) → taken_from streams.old.taken stream < 2 ^ 61 }
-    requires soon { clk ≤ 2 ^ 48 }
+    requires soon { clk ≤ STOP_MAX }
     ensures makes { with_ok (record { state = state.new; taken = streams.new.taken }) result
         ≡ in_turn (make_change (graph_of model.now) streams.old.seed clk)
         (map change_of changes.now) (record { state = state.old; taken = streams.old.taken }) }
     ensures left { record { state = state.new; taken = streams.new.taken }
         ≡ left_by_changes (graph_of model.now) streams.old.seed clk (map change_of changes.now)
         (record { state = state.old; taken = streams.old.taken }) }
-    ensures stays { IsTrue (in_range (graph_of model.now) state.new) }
+    ensures stays_in_range { IsTrue (in_range (graph_of model.now) state.new) }
     ensures seed { streams.new.seed ≡ streams.old.seed }
     ensures counted { (stream : ℕ)
         → taken_from streams.new.taken stream

@@ -1,6 +1,7 @@
 //! The value of an expression.
 
-ghost use Rattle.std.specs.Prelude.{◌≡◌, ◌<◌, ◌≤◌, ◌^◌, ◌-ℤ◌, pos, ℕ, IsTrue, IfSome, Ok, length};
+ghost use Rattle.std.specs.Prelude.{◌≡◌, ◌<◌, ◌≤◌, ◌-ℤ◌, pos, ℕ, IsTrue, IfSome, Ok, length};
+ghost use Rattle.sig_base.specs.declared.limits.TheConstants.{STOP_MAX};
 ghost use Rattle.model_core.specs.Run.State.{in_range, cell_at};
 ghost use Rattle.model_core.specs.Run.Value.{◌>>=◌ as and_then, value_of, indexed};
 ghost use Rattle.model_core.specs.Code.Views.{graph_of, expression_of};
@@ -14,7 +15,7 @@ use sig_base::FaultKind;
 
 /// The value of a scalar.
 fn scalar(model: &Model, var: usize, state: &State) -> i64
-    requires known { var < length model.now.vars }
+    requires declared { var < length model.now.vars }
     requires inside { IsTrue (in_range (graph_of model.now) state.now) }
     ensures { result ≡ cell_at state.now (record { variable = var; index = 0 }) }
 {
@@ -23,7 +24,7 @@ fn scalar(model: &Model, var: usize, state: &State) -> i64
 
 /// The place of a cell of an array, whose index is from 0 up to the array's size.
 pub fn cell_index(model: &Model, var: usize, index: i64) -> Result<usize, FaultKind>
-    requires known { var < length model.now.vars }
+    requires declared { var < length model.now.vars }
     ensures { map_ok (λ i. record { variable = var; index = i }) result
         ≡ indexed (graph_of model.now) var index }
 {
@@ -36,7 +37,7 @@ pub fn cell_index(model: &Model, var: usize, index: i64) -> Result<usize, FaultK
 
 /// The value of a cell of an array.
 fn cell(model: &Model, var: usize, index: i64, state: &State) -> Result<i64, FaultKind>
-    requires known { var < length model.now.vars }
+    requires declared { var < length model.now.vars }
     requires inside { IsTrue (in_range (graph_of model.now) state.now) }
     ensures { result
         ≡ and_then (indexed (graph_of model.now) var index) (λ p. Ok (cell_at state.now p)) }
@@ -106,7 +107,7 @@ fn operator_value(model: &Model, expr: &Expr, state: &State) -> Option<i64>
 pub fn value(model: &Model, expr: &Expr, state: &State, clk: u64) -> Result<i64, FaultKind>
     requires possible { PossibleExpression (graph_of model.now) (expression_of expr.now) }
     requires inside { IsTrue (in_range (graph_of model.now) state.now) }
-    requires soon { clk ≤ 2 ^ 48 }
+    requires soon { clk ≤ STOP_MAX }
     ensures { result ≡ value_of (graph_of model.now) state.now clk (expression_of expr.now) }
 {
     match expr {
@@ -122,7 +123,7 @@ pub fn value(model: &Model, expr: &Expr, state: &State, clk: u64) -> Result<i64,
 fn evaluate(model: &Model, expr: &Expr, state: &State, clk: u64) -> Result<i64, FaultKind>
     requires possible { PossibleExpression (graph_of model.now) (expression_of expr.now) }
     requires inside { IsTrue (in_range (graph_of model.now) state.now) }
-    requires soon { clk ≤ 2 ^ 48 }
+    requires soon { clk ≤ STOP_MAX }
     ensures { result ≡ value_of (graph_of model.now) state.now clk (expression_of expr.now) }
 {
     if let Some(x) = operator_value(model, expr, state) {
@@ -137,7 +138,7 @@ fn evaluate(model: &Model, expr: &Expr, state: &State, clk: u64) -> Result<i64, 
 fn evaluate_parts(model: &Model, expr: &Expr, state: &State, clk: u64) -> Result<i64, FaultKind>
     requires possible { PossibleExpression (graph_of model.now) (expression_of expr.now) }
     requires inside { IsTrue (in_range (graph_of model.now) state.now) }
-    requires soon { clk ≤ 2 ^ 48 }
+    requires soon { clk ≤ STOP_MAX }
     ensures { result ≡ value_of (graph_of model.now) state.now clk (expression_of expr.now) }
 {
     match expr {

@@ -12,5 +12,5 @@ mod storing;
 pub use changes::{apply, pick};
 pub use evaluation::value;
 pub use lists::put_values;
-pub use state::State;
+pub use state::{State, cells_declared};
 pub use storing::store;

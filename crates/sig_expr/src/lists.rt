@@ -1,7 +1,7 @@
 //! The values of several expressions, and the places that several targets name.
 
-ghost use Rattle.std.specs.Prelude.{◌≡◌, [], ◌<◌, ◌≤◌, ◌^◌, All, IsTrue, length, map};
-ghost use Rattle.sig_base.specs.declared.limits.TheConstants.{TARGETS_MAX};
+ghost use Rattle.std.specs.Prelude.{◌≡◌, [], ◌<◌, ◌≤◌, All, IsTrue, length, map};
+ghost use Rattle.sig_base.specs.declared.limits.TheConstants.{TARGETS_MAX, STOP_MAX};
 ghost use Rattle.model_core.specs.Run.State.{in_range};
 ghost use Rattle.model_core.specs.Run.Value.{each, value_of, place_of};
 ghost use Rattle.model_core.specs.Code.Views.{graph_of, expression_of, location_of};
@@ -25,11 +25,11 @@ pub fn put_values<const N: usize>(
     values: &mut ArrayVec<i64, N>,
 ) -> Result<(), FaultKind>
     requires empty { values.old.items ≡ [] }
-    requires few { length exprs.now ≤ N }
+    requires has_room { length exprs.now ≤ N }
     requires possible { All (PossibleExpression (graph_of model.now))
         (map expression_of exprs.now) }
     requires inside { IsTrue (in_range (graph_of model.now) state.now) }
-    requires soon { clk ≤ 2 ^ 48 }
+    requires soon { clk ≤ STOP_MAX }
     ensures { with_ok values.new.items result
         ≡ each (value_of (graph_of model.now) state.now clk) (map expression_of exprs.now) }
 {
@@ -43,7 +43,7 @@ pub fn put_values<const N: usize>(
 pub fn place(model: &Model, target: &Target, state: &State, clk: u64) -> Result<Place, FaultKind>
     requires possible { PossibleLocation (graph_of model.now) (location_of target.now) }
     requires inside { IsTrue (in_range (graph_of model.now) state.now) }
-    requires soon { clk ≤ 2 ^ 48 }
+    requires soon { clk ≤ STOP_MAX }
     ensures { result ≡ place_of (graph_of model.now) state.now clk (location_of target.now) }
 {
     let var = target.var;
@@ -65,10 +65,10 @@ pub fn put_places(
     places: &mut ArrayVec<Place, TARGETS_MAX>,
 ) -> Result<(), FaultKind>
     requires empty { places.old.items ≡ [] }
-    requires few { length targets.now ≤ TARGETS_MAX }
+    requires few_targets { length targets.now ≤ TARGETS_MAX }
     requires possible { All (PossibleLocation (graph_of model.now)) (map location_of targets.now) }
     requires inside { IsTrue (in_range (graph_of model.now) state.now) }
-    requires soon { clk ≤ 2 ^ 48 }
+    requires soon { clk ≤ STOP_MAX }
     ensures { with_ok places.new.items result
         ≡ each (place_of (graph_of model.now) state.now clk) (map location_of targets.now) }
 {

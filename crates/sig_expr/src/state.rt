@@ -2,10 +2,12 @@
 
 ghost use Rattle.std.specs.Prelude.{◌≡◌, ◌<◌, ◌≤◌, ◌+◌, ◌++◌, length, replicate, IfOk, OnOk};
 ghost use Rattle.model_core.specs.Run.State.{cells_of, cell_at, with_cell, cell_count, initial_state};
-ghost use Rattle.model_core.specs.Code.Views.{graph_of, variable_of};
+ghost use Rattle.model_core.specs.Saved.Cells.{cells_declared};
+ghost use Rattle.model_core.specs.Code.Views.{graph_of, variable_of, watched_of};
+ghost use Rattle.sig_expr.specs.WatchedValues.{values_watched};
 ghost use Rattle.sig_expr.specs.Inner.Pieces.{piece};
 
-use model_core::{Model as Graph, Var};
+use model_core::{Model as Graph, Var, Watch};
 use sig_base::NoMemory;
 use std::alloc::Global;
 use std::marker::Model;
@@ -49,6 +51,16 @@ fn cell_count(var: &Var) -> usize
     ensures { result ≡ cell_count (variable_of var.now) }
 {
     var.size.max(1)
+}
+
+/// How many cells the variable at a place has: none if there is no such variable.
+pub fn cells_declared(model: &Graph, var: usize) -> usize
+    ensures { result ≡ cells_declared (graph_of model.now) var }
+{
+    match model.vars.as_slice().get(var) {
+        Some(found) => cell_count(found),
+        None => 0,
+    }
 }
 
 /// Adds so many cells that hold `value`.
@@ -96,6 +108,16 @@ impl State {
         match self.spans.as_slice().get(var) {
             Some(span) => part(self.cells.as_slice(), *span),
             None => &[],
+        }
+    }
+
+    /// The values of a watched thing: those of a variable's cells, and none of a vertex.
+    pub fn values_watched(&self, watch: Watch) -> &[i64]
+        ensures { result.now ≡ values_watched self.now (watched_of watch) }
+    {
+        match watch {
+            Watch::Variable { var } => self.cells(var),
+            Watch::Event { vertex: _ } => &[],
         }
     }
 

@@ -63,7 +63,7 @@ pub fn store(
         ≡ store (graph_of model.now) (record { variable = var; index = index }, value) state.old }
     ensures fault { OnErr result (state.new ≡ state.old) }
     // A state in range stays so.
-    ensures stays { IsTrue (in_range (graph_of model.now) state.old)
+    ensures stays_in_range { IsTrue (in_range (graph_of model.now) state.old)
         → IsTrue (in_range (graph_of model.now) state.new) }
 {
     put_kept(model, var, index, value, state)
@@ -76,7 +76,7 @@ pub fn store_at(model: &Model, place: Place, value: i64, state: &mut State) -> R
     ensures stores { with_ok state.new result
         ≡ store (graph_of model.now) (place, value) state.old }
     ensures fault { OnErr result (state.new ≡ state.old) }
-    ensures stays { IsTrue (in_range (graph_of model.now) state.new) }
+    ensures stays_in_range { IsTrue (in_range (graph_of model.now) state.new) }
 {
     store(model, place.var, place.index, value, state)
 }
@@ -95,7 +95,7 @@ pub fn store_all(
         ≡ in_turn (store (graph_of model.now)) (zip places.now values.now) state.old }
     ensures left { state.new
         ≡ left_by_stores (graph_of model.now) (zip places.now values.now) state.old }
-    ensures stays { IsTrue (in_range (graph_of model.now) state.new) }
+    ensures stays_in_range { IsTrue (in_range (graph_of model.now) state.new) }
 {
     for i in 0..places.len() {
         store_at(model, places[i], values[i], state)?;

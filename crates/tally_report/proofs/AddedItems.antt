@@ -1,7 +1,8 @@
 -- Items that are added up stay of as many runs, and a loop that adds each one.
-use Rattle.std.proofs.Common.{◌≡◌, ℕ, zero, suc, ◌+◌, ◌*◌, ◌^◌, ◌<◌, ◌≤◌, List, [], ◌∷◌, ◌++◌, length, take, drop, take-append-drop, get_or, slice_set, All, min, refl, sym, ap, ap₂, ◌∙◌, subst, arith}
+use Rattle.std.proofs.Common.{◌≡◌, ℕ, zero, suc, ◌+◌, ◌*◌, ◌<◌, ◌≤◌, List, [], ◌∷◌, ◌++◌, length, take, drop, take-append-drop, get_or, slice_set, All, min, refl, sym, ap, ap₂, ◌∙◌, subst, arith}
 use Rattle.std.specs.Prelude.{◌+ℤ◌}
 use Rattle.std.proofs.lemmas.List.Elements.{All-nil, All-cons, All-tail}
+use Rattle.sig_base.specs.declared.limits.TheConstants.{STOP_MAX}
 use Rattle.tally_report.specs.declared.item.Item.{Item}
 use Rattle.tally_report.specs.declared.item.Item.TheVariants as items
 use Rattle.tally_report.specs.SmallAreas.{IsSmallArea, IsOfRuns}
@@ -9,13 +10,13 @@ use Rattle.tally_report.specs.Totalling.{item_added, items_added}
 use Rattle.tally_report.proofs.AreaBounds.{sum-small, area-longer}
 
 pub more-runs : (m n : ℕ) (item : Item) → m ≤ n → IsOfRuns m item → IsOfRuns n item
-more-runs m n (items.Cell span area) le small = area-longer (2 ^ 48 * m) (2 ^ 48 * n) area (omega (arith, le)) small
+more-runs m n (items.Cell span area) le small = area-longer (STOP_MAX * m) (STOP_MAX * n) area (omega (arith, le)) small
 more-runs m n (items.Count k) le small = omega (arith, le, small)
 
 one-run-more : (m : ℕ) (x y : Item) → IsOfRuns m x → IsOfRuns 1 y → IsOfRuns (m + 1) (item_added x y)
 one-run-more m (items.Cell s a) (items.Cell t b) p q =
-    let more : 2 ^ 48 * m + 2 ^ 48 * 1 ≡ 2 ^ 48 * (m + 1) = omega arith in
-    subst (λ n. IsSmallArea n (a +ℤ b)) more (sum-small (2 ^ 48 * m) (2 ^ 48 * 1) a b p q)
+    let more : STOP_MAX * m + STOP_MAX * 1 ≡ STOP_MAX * (m + 1) = omega arith in
+    subst (λ n. IsSmallArea n (a +ℤ b)) more (sum-small (STOP_MAX * m) (STOP_MAX * 1) a b p q)
 one-run-more m (items.Count k) (items.Count l) p q = omega (arith, p, q)
 one-run-more m (items.Cell s a) (items.Count l) p q = more-runs m (m + 1) (items.Cell s a) (omega arith) p
 one-run-more m (items.Count k) (items.Cell t b) p q = omega (arith, p)

@@ -1,8 +1,9 @@
 -- Runs that are added to totals, one after the other.
-use Rattle.std.proofs.Common.{◌≡◌, ℕ, ◌+◌, ◌*◌, ◌^◌, ◌≤◌, List, [], ◌∷◌, ◌++◌, length, All, refl, subst, arith}
+use Rattle.std.proofs.Common.{◌≡◌, ℕ, ◌+◌, ◌*◌, ◌≤◌, List, [], ◌∷◌, ◌++◌, length, All, refl, subst, arith}
 use Rattle.std.specs.Prelude.{ℤ}
 use Rattle.std.proofs.lemmas.Int.{ints}
 use Rattle.std.proofs.lemmas.List.Elements.{All-tail}
+use Rattle.sig_base.specs.declared.limits.TheConstants.{STOP_MAX}
 use mir.Syntax.{w128}
 use mir.Val.{SFits}
 use Rattle.model_core.specs.EventGraph.{EventGraph}
@@ -25,5 +26,5 @@ small-from n m t (run ∷ runs) is small all =
 pub small_totals : (g : EventGraph) (runs : List RunTally) → All (λ (r : RunTally). All (IsOfRuns 1) r.items) runs → All (IsOfRuns (length runs)) (totals_of g runs).items
 small_totals g runs all = small-from 0 (length runs) (no_totals g) runs (omega arith) (of_no_run g) all
 
-pub area_fits : (runs : ℕ) (area : ℤ) → runs ≤ 65536 → IsSmallArea (2 ^ 48 * runs) area → SFits w128 area
+pub area_fits : (runs : ℕ) (area : ℤ) → runs ≤ 65536 → IsSmallArea (STOP_MAX * runs) area → SFits w128 area
 area_fits runs area few small = omega (arith, ints, small.above, small.below, few)

@@ -13,16 +13,16 @@ use Rattle.tally_report.specs.SmallAreas.{IsSmallArea}
 use Rattle.tally_report.specs.Inner.Sums.{IsSmall}
 use Rattle.tally_report.specs.Inner.Sums.{cell_sum, vertex_sum, sums_at, sums_from}
 
-one-behind : (g : EventGraph) (k n : ℕ) (xs : List Watched) (y : Watched) → n ≡ k + length xs → sums_from g k (xs ++ y ∷ []) ≡ sums_from g k xs ++ sums_at g n y
-one-behind g k n [] y at = ap (λ p. sums_at g p y ++ []) (let e : k ≡ n = omega (arith, at) in e) ∙ append-nil (sums_at g n y)
-one-behind g k n (x ∷ xs) y at =
-    ap (λ later. sums_at g k x ++ later) (one-behind g (suc k) n xs y (omega (arith, at))) ∙ sym (append_assoc (sums_at g k x) (sums_from g (suc k) xs) (sums_at g n y))
+sums_from-append_one : (g : EventGraph) (k n : ℕ) (xs : List Watched) (y : Watched) → n ≡ k + length xs → sums_from g k (xs ++ y ∷ []) ≡ sums_from g k xs ++ sums_at g n y
+sums_from-append_one g k n [] y at = ap (λ p. sums_at g p y ++ []) (let e : k ≡ n = omega (arith, at) in e) ∙ append-nil (sums_at g n y)
+sums_from-append_one g k n (x ∷ xs) y at =
+    ap (λ later. sums_at g k x ++ later) (sums_from-append_one g (suc k) n xs y (omega (arith, at))) ∙ sym (append_assoc (sums_at g k x) (sums_from g (suc k) xs) (sums_at g n y))
 
 pub sums_more : {X : Type 0} (g : EventGraph) (view : X → Watched) (xs : List X) (i : ℕ) (x : X) → i < length xs → x ≡ get_or xs i x
     → sums_from g 0 (map view (take (i + 1) xs)) ≡ sums_from g 0 (map view (take i xs)) ++ sums_at g i (view x)
 sums_more g view xs i x within is =
     let size : i ≡ 0 + length (map view (take i xs)) = omega (arith, length-map (take i xs) view, length-take i xs, within) in
-    ap (sums_from g 0) (seen_more view xs i x within is) ∙ one-behind g 0 i (map view (take i xs)) (view x) size
+    ap (sums_from g 0) (seen_more view xs i x within is) ∙ sums_from-append_one g 0 i (map view (take i xs)) (view x) size
 
 -- ---- no area is under them
 

@@ -10,7 +10,7 @@ use Rattle.tally_report.specs.Tallying.{ItemOf, CellAt, VertexAt, items_reported
 use Rattle.tally_report.specs.Totalling.{no_item}
 use Rattle.tally_report.specs.Inner.Sums.{held_until, sums_from}
 use Rattle.tally_report.proofs.FirstSums.{no-area}
-use Rattle.tally_report.proofs.ItemsTold.{first_sum, first-from}
+use Rattle.tally_report.proofs.ItemsOfSums.{first_sum, first-from}
 
 held-none : (item : ItemOf) → held_until 0 0 (first_sum item).item ≡ no_item item
 held-none (CellAt place index) = refl

@@ -3,7 +3,7 @@ mod ValuesNoted
 mod FirstSums
 mod MapsInPlace
 mod RisingNotes
-mod ItemsTold
+mod ItemsOfSums
 mod RunTallied
 mod AddedItems
 mod FirstTotals

@@ -124,11 +124,11 @@ in-turn : (from until n : ℕ) (later : Moment → Look) → ((m : Moment) → m
 in-turn from until n later all (Rests notes end) fine = record { rises = fine.0.rises; ends = fine.1; few = omega (arith, fine.0.few) }
 in-turn from until n later all (Fails notes end) fine = record { rises = fine.0.rises; ends = fine.1; few = omega (arith, fine.0.few) }
 in-turn from until n later all (Goes notes m) (rise, by, none) =
-    let behind = all m by none in
+    let rest = all m by none in
     record {
-      rises = rises-append from m.now.clock until notes (later m).history rise.rises behind.rises;
-      ends = behind.ends;
-      few = omega (arith, rise.few, behind.few, length-append notes (later m).history);
+      rises = rises-append from m.now.clock until notes (later m).history rise.rises rest.rises;
+      ends = rest.ends;
+      few = omega (arith, rise.few, rest.few, length-append notes (later m).history);
     }
 
 pub fine_look : (g : EventGraph) (seed until n : ℕ) (m : Moment) → m.now.clock ≤ until → NoneEarlier m.now.clock m.now.pending → FineLook m.now.clock until n (look_from g seed until n m)

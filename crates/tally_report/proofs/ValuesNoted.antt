@@ -7,9 +7,9 @@ use Rattle.model_core.specs.EventGraph.{Watched, WatchedVariable, WatchedVertex}
 use Rattle.model_core.specs.Run.State.{State}
 use Rattle.model_core.specs.Run.History.{watched_values}
 use Rattle.tally_report.specs.CellCourse.{cells_noted}
-use Rattle.tally_report.specs.Inner.Sums.{cells_there}
+use Rattle.sig_expr.specs.WatchedValues.{values_watched}
 
-noted-is : (watch : List Watched) (s : State) (place : ℕ) → cells_noted watch (watched_values watch s) place ≡ option_map_or (cells_there s) (slice_get watch place) []
+noted-is : (watch : List Watched) (s : State) (place : ℕ) → cells_noted watch (watched_values watch s) place ≡ option_map_or (values_watched s) (slice_get watch place) []
 noted-is [] s place = refl
 noted-is (WatchedVertex v ∷ watch) s zero = refl
 noted-is (WatchedVertex v ∷ watch) s (suc place) = noted-is watch s place
@@ -17,11 +17,11 @@ noted-is (WatchedVariable v ∷ watch) s zero = refl
 noted-is (WatchedVariable v ∷ watch) s (suc place) = noted-is watch s place
 
 module _ {X : Type 0} (view : X → Watched) (ws : List X) (s : State) (place : ℕ) where
-  looked-up : cells_noted (map view ws) (watched_values (map view ws) s) place ≡ option_map_or (cells_there s) (option_map view (slice_get ws place)) []
-  looked-up = noted-is (map view ws) s place ∙ ap (λ o. option_map_or (cells_there s) o []) (slice_get-map view ws place)
+  looked-up : cells_noted (map view ws) (watched_values (map view ws) s) place ≡ option_map_or (values_watched s) (option_map view (slice_get ws place)) []
+  looked-up = noted-is (map view ws) s place ∙ ap (λ o. option_map_or (values_watched s) o []) (slice_get-map view ws place)
 
-  pub noted-at : (w : X) → place < length ws → w ≡ get_or ws place w → cells_noted (map view ws) (watched_values (map view ws) s) place ≡ cells_there s (view w)
-  noted-at w within is = looked-up ∙ ap (λ o. option_map_or (cells_there s) (option_map view o) []) (slice_get-get_or ws place w within) ∙ ap (λ w. cells_there s (view w)) (sym is)
+  pub noted-at : (w : X) → place < length ws → w ≡ get_or ws place w → cells_noted (map view ws) (watched_values (map view ws) s) place ≡ values_watched s (view w)
+  noted-at w within is = looked-up ∙ ap (λ o. option_map_or (values_watched s) (option_map view o) []) (slice_get-get_or ws place w within) ∙ ap (λ w. values_watched s (view w)) (sym is)
 
   pub noted-beyond : length ws ≤ place → cells_noted (map view ws) (watched_values (map view ws) s) place ≡ []
-  noted-beyond past = looked-up ∙ ap (λ o. option_map_or (cells_there s) (option_map view o) []) (slice_get_past ws place past)
+  noted-beyond past = looked-up ∙ ap (λ o. option_map_or (values_watched s) (option_map view o) []) (slice_get_past ws place past)

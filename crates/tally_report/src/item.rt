@@ -133,7 +133,7 @@ impl Item {
 
     /// The item with the same one of a further run.
     pub(crate) fn plus(self, other: Item) -> Item
-        requires few { IsOfRuns 65535 self }
+        requires below_limit { IsOfRuns 65535 self }
         requires one { IsOfRuns 1 other }
         ensures { result ≡ item_added self other }
     {

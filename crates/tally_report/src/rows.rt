@@ -23,10 +23,10 @@ pub(crate) struct RowHead<'b> {
 }
 
 /// A number in decimal, if it is to be written.
-fn digits_if(buffer: &mut Buffer, told: bool, value: i64) -> &[u8]
-    ensures { result.now ≡ cond told (signed_decimal value) [] }
+fn digits_if(buffer: &mut Buffer, shown: bool, value: i64) -> &[u8]
+    ensures { result.now ≡ cond shown (signed_decimal value) [] }
 {
-    if told {
+    if shown {
         buffer.format(value).as_bytes()
     } else {
         b""

@@ -3,16 +3,14 @@
 ghost use Rattle.std.specs.Prelude.{◌≡◌, ℕ, ◌≤◌, ◌++◌, All, map, IfOk, OnOk};
 ghost use Rattle.std.specs.List.{range_with_len};
 ghost use Rattle.model_core.specs.Run.History.{watched_values};
-ghost use Rattle.model_core.specs.Saved.Cells.{cells_declared};
 ghost use Rattle.model_core.specs.Code.Views.{graph_of, watched_of};
 ghost use Rattle.tally_report.specs.CellCourse.{cells_noted, value_noted};
-ghost use Rattle.tally_report.specs.Inner.Sums.{IsSmall};
-ghost use Rattle.tally_report.specs.Inner.Sums.{cells_there, held_until, sum_at, sum_on, cell_sum, sums_at, sums_from};
+ghost use Rattle.tally_report.specs.Inner.Sums.{IsSmall, held_until, sum_at, sum_on, cell_sum, sums_at, sums_from};
 
 use crate::item::Item;
 use model_core::{Model, Watch};
 use sig_base::NoMemory;
-use sig_expr::State;
+use sig_expr::{State, cells_declared};
 use std::alloc::Global;
 
 /// An item on its way, with what it is of: a place of the watch list, and the index of a cell.
@@ -23,16 +21,6 @@ pub(crate) struct Sum {
     pub item: Item,
 }
 
-/// The values that a state holds of something watched.
-fn cells_there(state: &State, watch: Watch) -> &[i64]
-    ensures { result.now ≡ cells_there state.now (watched_of watch) }
-{
-    match watch {
-        Watch::Variable { var } => state.cells(var),
-        Watch::Event { vertex: _ } => &[],
-    }
-}
-
 /// The noted values of a state, of the watched thing at a place of the watch list.
 fn cells_at<'s>(model: &Model, state: &'s State, place: usize) -> &'s [i64]
     ensures { result.now
@@ -40,7 +28,7 @@ fn cells_at<'s>(model: &Model, state: &'s State, place: usize) -> &'s [i64]
         (watched_values (map watched_of model.now.watch) state.now) place }
 {
     match model.watch.as_slice().get(place) {
-        Some(watch) => cells_there(state, *watch),
+        Some(watch) => state.values_watched(*watch),
         None => &[],
     }
 }
@@ -53,16 +41,6 @@ fn value_at(model: &Model, state: &State, place: usize, index: usize) -> i64
 {
     match cells_at(model, state, place).get(index) {
         Some(value) => *value,
-        None => 0,
-    }
-}
-
-/// How many cells a variable has.
-fn cells_declared(model: &Model, var: usize) -> usize
-    ensures { result ≡ cells_declared (graph_of model.now) var }
-{
-    match model.vars.as_slice().get(var) {
-        Some(found) => found.size.max(1),
         None => 0,
     }
 }

@@ -62,7 +62,7 @@ impl TallyTaker {
 
     /// The tally of a run that came to this end at this time.
     pub fn tally(&self, alloc: Global, end: RunEnd, time: u64) -> Result<RunTally, NoMemory>
-        ensures told { IfOk result (λ run. run ≡ tally_of_sums end time self.now) }
+        ensures tally { IfOk result (λ run. run ≡ tally_of_sums end time self.now) }
         ensures small { IfOk result (λ run. All (IsSmall (max self.now.since time)) run.items) }
     {
         let upto = self.since.max(time);

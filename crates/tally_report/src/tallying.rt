@@ -1,6 +1,7 @@
 //! The tally of one run, kept as running sums while the run goes.
 
-ghost use Rattle.std.specs.Prelude.{◌≡◌, ℕ, ℤ, List as Sequence, None, ◌≤◌, ◌^◌, All, IfOk, IfErr, IsTrue};
+ghost use Rattle.std.specs.Prelude.{◌≡◌, ℕ, ℤ, List as Sequence, None, ◌≤◌, All, IfOk, IfErr, IsTrue};
+ghost use Rattle.sig_base.specs.declared.limits.TheConstants.{STOP_MAX, EVENTS_MAX};
 ghost use Rattle.model_core.specs.Run.History.{look, look_from, allowed};
 ghost use Rattle.model_core.specs.Code.Views.{graph_of};
 ghost use Rattle.run_control.specs.Beginning.{BegunRun};
@@ -52,11 +53,11 @@ fn follow<'m>(
     until: u64,
     events: u64,
 ) -> Result<RunTally, NoMemory>
-    requires soon { until ≤ 2 ^ 48 }
-    requires budget { events ≤ 2 ^ 40 }
+    requires soon { until ≤ STOP_MAX }
+    requires budget { events ≤ EVENTS_MAX }
     requires begun { (starts : Sequence ℤ) × (room : ℕ)
         × BegunRun model.now run.old.seed starts room run.old }
-    ensures told { IfOk result
+    ensures tally { IfOk result
         (λ tally. tally
         ≡ tally_of (graph_of model.now) until
         (look_from (graph_of model.now) run.old.seed until events
@@ -88,10 +89,10 @@ pub fn tally_one(
     starts: &List<i64>,
 ) -> Result<RunTally, TallyError>
     requires possible { PossibleModel (graph_of model.now) }
-    requires soon { until ≤ 2 ^ 48 }
-    requires budget { events ≤ 2 ^ 40 }
+    requires soon { until ≤ STOP_MAX }
+    requires budget { events ≤ EVENTS_MAX }
     ensures accepted { IfOk result (λ tally. IsTrue (allowed (graph_of model.now) starts.now)) }
-    ensures told { IfOk result
+    ensures tally { IfOk result
         (λ tally. tally
         ≡ tally_of (graph_of model.now) until
         (look (graph_of model.now) seed starts.now until events)) }

@@ -36,7 +36,7 @@ impl Model for Totals {
 
 /// Adds to items those of a further run.
 fn add_items(totals: &mut Vec<Item>, others: &[Item])
-    requires few { All (IsOfRuns 65535) totals.old.items }
+    requires below_limit { All (IsOfRuns 65535) totals.old.items }
     requires one { All (IsOfRuns 1) others.now }
     ensures { totals.new.items ≡ items_added totals.old.items others.now }
 {
@@ -59,7 +59,7 @@ impl Totals {
 
     /// Adds a run of the same model.
     pub fn add(&mut self, run: &RunTally)
-        requires few { self.old.runs < RUNS_MAX }
+        requires below_limit { self.old.runs < RUNS_MAX }
         requires small { All (IsOfRuns 1) run.now.items }
         ensures { self.new ≡ with_run self.old run.now }
     {

@@ -1,6 +1,6 @@
 mod StepsCounted
 mod FewNotes
-mod RunTold
+mod MeasuredRuns
 mod EdgesCounted
 mod SummaryLines
 mod Appending

@@ -9,11 +9,11 @@ module _ {S : Type 0} (move : S → Move S) where
       → (v : Move S) → onward (reached move k) v ≡ Some here → steps_from (steps_made move j) v ≡ suc k + steps_made move (suc j - suc k) here.moment
   one-more k j here more (Rests notes end) e = cc
   one-more k j here more (Fails notes end) e = cc
-  one-more k j here more (Goes notes t) e = behind (reached move k t) refl e
+  one-more k j here more (Goes notes t) e = from_next (reached move k t) refl e
     where
-      behind : (o : Option (Reached S)) → reached move k t ≡ o → option_map (reached_after_notes notes) o ≡ Some here → suc (steps_made move j t) ≡ suc k + steps_made move (suc j - suc k) here.moment
-      behind None there e = cc
-      behind (Some q) there e =
+      from_next : (o : Option (Reached S)) → reached move k t ≡ o → option_map (reached_after_notes notes) o ≡ Some here → suc (steps_made move j t) ≡ suc k + steps_made move (suc j - suc k) here.moment
+      from_next None there e = cc
+      from_next (Some q) there e =
           let same : reached_after_notes notes q ≡ here = cc in
           let left : j - k ≡ suc j - suc k = omega arith in
           let those = more t q there in

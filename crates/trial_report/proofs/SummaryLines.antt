@@ -14,7 +14,7 @@ use Rattle.std.specs.List.{range_with_len}
 use Rattle.model_gen.specs.Generated.{generated, generated_vertex}
 use Rattle.trial_report.specs.StepsMade.{steps_of_run}
 use Rattle.trial_report.specs.TrialText.{without_feed, run_line}
-use Rattle.trial_report.specs.Inner.ToldByMeasures.{standing_text, measure_line, IsMeasureOf}
+use Rattle.trial_report.specs.Inner.RunMeasures.{standing_text, measure_line, IsMeasureOf}
 
 feed-goes : (text line : List ℕ) → line ≡ text ++ codes "\n" → text ≡ without_feed line
 feed-goes text line is =
@@ -28,8 +28,8 @@ standing_line until events (Faulted t kind) = feed-goes (standing_text until eve
 standing_line until events Going = feed-goes (standing_text until events (outcome_of Going)) _ refl
 
 pub measured_line : (name : List ℕ) (g : EventGraph) (seed until events : ℕ) (m : RunMeasure) → IsMeasureOf g seed until events m → measure_line name until events m ≡ run_line name g seed until events
-measured_line name g seed until events m told =
-    (λ i. name ++ codes " " ++ standing_text until events (told.outcome i) ++ codes " events " ++ decimal (told.made i) ++ codes " notes " ++ decimal (told.noted i) ++ codes "\n")
+measured_line name g seed until events m measured =
+    (λ i. name ++ codes " " ++ standing_text until events (measured.outcome i) ++ codes " events " ++ decimal (measured.made i) ++ codes " notes " ++ decimal (measured.noted i) ++ codes "\n")
     ∙ ap (λ x. name ++ codes " " ++ x ++ codes " events " ++ decimal (steps_of_run g seed [] until events) ++ codes " notes " ++ decimal (length (look g seed [] until events).history) ++ codes "\n")
     (standing_line until events (look g seed [] until events).standing)
 

@@ -1,11 +1,12 @@
 //! How a run of a model goes: what it comes to, how many steps it makes, and how many notes its history has.
 
-ghost use Rattle.std.specs.Prelude.{◌≡◌, ◌≤◌, ◌^◌, [], IfOk};
+ghost use Rattle.std.specs.Prelude.{◌≡◌, ◌≤◌, [], IfOk};
+ghost use Rattle.sig_base.specs.declared.limits.TheConstants.{STOP_MAX, EVENTS_MAX};
 ghost use Rattle.model_core.specs.Run.Step.{vertex_at};
 ghost use Rattle.model_core.specs.Static.Reading.{IsValid};
 ghost use Rattle.model_core.specs.Code.Views.{graph_of};
 ghost use Rattle.run_control.specs.Beginning.{BegunRun};
-ghost use Rattle.trial_report.specs.Inner.ToldByMeasures.{IsMeasureOf};
+ghost use Rattle.trial_report.specs.Inner.RunMeasures.{IsMeasureOf};
 
 use crate::note_count::NoteCount;
 use event_heap::HeapPending;
@@ -48,8 +49,8 @@ fn follow<'m>(
     until: u64,
     events: u64,
 ) -> Result<RunMeasure, NoMemory>
-    requires soon { until ≤ 2 ^ 48 }
-    requires budget { events ≤ 2 ^ 40 }
+    requires soon { until ≤ STOP_MAX }
+    requires budget { events ≤ EVENTS_MAX }
     requires begun { BegunRun model.now run.old.seed [] 4096 run.old }
     ensures { IfOk result (IsMeasureOf (graph_of model.now) run.old.seed until events) }
 {
@@ -77,8 +78,8 @@ pub(crate) fn measure(
 ) -> Result<RunMeasure, NoMemory>
     requires valid { IsValid (graph_of model.now) }
     requires plain { (vertex_at (graph_of model.now) 0).parameters ≡ [] }
-    requires soon { until ≤ 2 ^ 48 }
-    requires budget { events ≤ 2 ^ 40 }
+    requires soon { until ≤ STOP_MAX }
+    requires budget { events ≤ EVENTS_MAX }
     ensures { IfOk result (IsMeasureOf (graph_of model.now) seed until events) }
 {
     let mut run = begin(alloc, model, seed)?;

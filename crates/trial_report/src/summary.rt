@@ -4,7 +4,7 @@ ghost use Rattle.std.specs.Prelude.{◌≡◌, ◌-◌, ◌^◌, ◌++◌, min, 
 ghost use Rattle.std.specs.List.{sum_by};
 ghost use Rattle.model_core.specs.Static.Reading.{IsValid};
 ghost use Rattle.model_core.specs.Code.Views.{graph_of, vertex_of};
-ghost use Rattle.trial_report.specs.Inner.ToldByMeasures.{standing_text, measure_line};
+ghost use Rattle.trial_report.specs.Inner.RunMeasures.{standing_text, measure_line};
 ghost use Rattle.trial_report.specs.TrialText.{edges_in, size_line, applications_line};
 
 use crate::run_measure::RunMeasure;

@@ -1,11 +1,12 @@
 //! A trial: a number makes a model, the model is reduced, and both are run.
 
-ghost use Rattle.std.specs.Prelude.{◌≡◌, ◌≤◌, ◌^◌, [], ◌++◌, length, OnOk, IfOk};
+ghost use Rattle.std.specs.Prelude.{◌≡◌, ◌≤◌, [], ◌++◌, length, OnOk, IfOk};
+ghost use Rattle.sig_base.specs.declared.limits.TheConstants.{STOP_MAX, EVENTS_MAX};
 ghost use Rattle.model_core.specs.EventGraph.{EventGraph};
 ghost use Rattle.model_core.specs.Run.Step.{vertex_at};
 ghost use Rattle.model_core.specs.Static.Reading.{IsValid};
 ghost use Rattle.model_core.specs.Code.Views.{graph_of};
-ghost use Rattle.trial_report.specs.Inner.ToldByMeasures.{IsMeasureOf};
+ghost use Rattle.trial_report.specs.Inner.RunMeasures.{IsMeasureOf};
 ghost use Rattle.trial_report.specs.TrialText.{run_line, reduction_lines, Summarises};
 
 use crate::run_measure::{RunMeasure, measure};
@@ -28,8 +29,8 @@ fn put_run_of(
 ) -> Result<(), NoMemory>
     requires valid { IsValid (graph_of model.now) }
     requires plain { (vertex_at (graph_of model.now) 0).parameters ≡ [] }
-    requires soon { until ≤ 2 ^ 48 }
-    requires budget { events ≤ 2 ^ 40 }
+    requires soon { until ≤ STOP_MAX }
+    requires budget { events ≤ EVENTS_MAX }
     ensures { OnOk result
         (out.new.items
         ≡ out.old.items ++ run_line name.now (graph_of model.now) seed until events) }
@@ -50,8 +51,8 @@ fn put_reduction(
 ) -> Result<(), NoMemory>
     requires valid { IsValid (graph_of reduced.now.model) }
     requires plain { (vertex_at (graph_of reduced.now.model) 0).parameters ≡ [] }
-    requires soon { until ≤ 2 ^ 48 }
-    requires budget { events ≤ 2 ^ 40 }
+    requires soon { until ≤ STOP_MAX }
+    requires budget { events ≤ EVENTS_MAX }
     ensures { (g : EventGraph) → IsMeasureOf g seed until events run
         → OnOk result
         (out.new.items
@@ -76,9 +77,9 @@ pub fn trial_text(
     events: u64,
 ) -> Result<Text, NoMemory>
     requires some { 1 ≤ vertices }
-    requires few { vertices ≤ 500 }
-    requires soon { until ≤ 2 ^ 48 }
-    requires budget { events ≤ 2 ^ 40 }
+    requires few_vertices { vertices ≤ 500 }
+    requires soon { until ≤ STOP_MAX }
+    requires budget { events ≤ EVENTS_MAX }
     ensures { IfOk result (Summarises seed vertices until events) }
 {
     strategies_keep_the_meaning();

@@ -14,7 +14,8 @@ use Rattle.model_core.specs.Run.History.{watched_values}
 use Rattle.model_core.proofs.BothTrue.{and_first, and_second}
 use Rattle.model_core.specs.Saved.Cells.{cells_declared, watched_sizes, cut_up, in_one_list}
 use Rattle.watch_trace.specs.Tracing.{is_new}
-use Rattle.watch_trace.specs.Inner.KeptNotes.{watched_size, values_watched}
+use Rattle.sig_expr.specs.WatchedValues.{values_watched}
+use Rattle.watch_trace.specs.Inner.KeptNotes.{watched_size}
 use Rattle.run_laws.proofs.CutUp.{cut_up-in_one_list, in_one_list-cut_up, lengths-cut_up, length-in_one_list, same-in_one_list}
 
 pub items-in_one_list : (s : State) (watch : List Watched) → flat_map (values_watched s) watch ≡ in_one_list (watched_values watch s)

@@ -158,7 +158,7 @@ impl<'m> LastNotes<'m> {
     /// Whether an `at` note is due before the run's next turn. `next` is the run's next event.
     pub fn leaving<P: Pending>(&self, run: &Run<'m, P>, next: Option<First>, until: u64) -> bool
         requires one_model { self.now.model ≡ run.now.model }
-        requires told { next ≡ next_shown run.now None }
+        requires is_next { next ≡ next_shown run.now None }
         ensures { result ≡ (leaves_time run.now.now.clock until (next_entry run.now.now.pending)
             && is_new (watched_values
             (map watched_of self.now.model.watch) run.now.now.state) self.now.noted) }

@@ -4,11 +4,12 @@ ghost use Rattle.std.specs.Prelude.{◌≡◌, ◌+◌, ◌≤◌, not, map, len
 ghost use Rattle.std.specs.List.{flat_map, sum_by};
 ghost use Rattle.model_core.specs.Run.Pending.{same_values};
 ghost use Rattle.model_core.specs.Code.Views.{graph_of, watched_of};
-ghost use Rattle.watch_trace.specs.Inner.KeptNotes.{watched_size, values_watched};
+ghost use Rattle.sig_expr.specs.WatchedValues.{values_watched};
+ghost use Rattle.watch_trace.specs.Inner.KeptNotes.{watched_size};
 
 use model_core::{Model, Watch};
 use sig_base::NoMemory;
-use sig_expr::State;
+use sig_expr::{State, cells_declared};
 use std::alloc::Global;
 
 /// How many values there are of a watched thing.
@@ -16,21 +17,8 @@ fn watched_size(model: &Model, watch: Watch) -> usize
     ensures { result ≡ watched_size (graph_of model.now) (watched_of watch) }
 {
     match watch {
-        Watch::Variable { var } => match model.vars.as_slice().get(var) {
-            Some(found) => found.size.max(1),
-            None => 0,
-        },
+        Watch::Variable { var } => cells_declared(model, var),
         Watch::Event { vertex: _ } => 0,
-    }
-}
-
-/// The values of a watched thing in a state.
-fn values_watched(state: &State, watch: Watch) -> &[i64]
-    ensures { result.now ≡ values_watched state.now (watched_of watch) }
-{
-    match watch {
-        Watch::Variable { var } => state.cells(var),
-        Watch::Event { vertex: _ } => &[],
     }
 }
 
@@ -66,7 +54,7 @@ pub fn are_same(watch: &[Watch], values: &[i64], state: &State) -> bool
 {
     let mut from = 0;
     for watched in watch {
-        let cells = values_watched(state, *watched);
+        let cells = state.values_watched(*watched);
         let upto = from + cells.len();
         if &values[from..upto] != cells {
             return false;
@@ -128,7 +116,7 @@ pub fn take_values(values: &mut [i64], watch: &[Watch], state: &State) -> bool
     let mut new = false;
     let mut from = 0;
     for watched in watch {
-        let cells = values_watched(state, *watched);
+        let cells = state.values_watched(*watched);
         let upto = from + cells.len();
         let replaced = replace(&mut values[from..upto], cells);
         new = replaced | new;

@@ -25,8 +25,8 @@ alone-wins keys v left right alone one =
     }
 
 -- one of the two below a place is the one that the place is above
-pub stands-below : (winners : List ℕ) (v place below : ℕ) → below / 2 ≡ place → get_or winners below 0 ≡ v → (get_or winners (2 * place) 0 ≡ v) ⊎ (get_or winners (2 * place + 1) 0 ≡ v)
-stands-below winners v place below h e = elim (cases_eq (2 * place) below) [
+pub either-below : (winners : List ℕ) (v place below : ℕ) → below / 2 ≡ place → get_or winners below 0 ≡ v → (get_or winners (2 * place) 0 ≡ v) ⊎ (get_or winners (2 * place + 1) 0 ≡ v)
+either-below winners v place below h e = elim (cases_eq (2 * place) below) [
   | inl q ↦ inl (rw q e)
   | inr n ↦ let q : 2 * place + 1 ≡ below = omega arith in inr (rw q e)
 ]

@@ -124,9 +124,9 @@ held-between keys winners v place h l top below (higher _ up) p b o e =
     let some : 0 < below / 2 = (let k : top ≤ below / 2 = above-le top (below / 2) up in omega arith) in
     let above : get_or winners (below / 2) 0 ≡ v = held-between keys winners v place h l top (below / 2) up p (omega arith) (above-up below (length keys + v) o) e in
     let here : (child : ℕ) → child < length winners → 0 < child → child / 2 ≡ below / 2 → get_or winners (below / 2) 0 ≡ get_or winners child 0 → get_or winners below 0 ≡ v = λ child c q s w.
-    let standing : get_or winners child 0 ≡ v = sym w ∙ above in
-    let same : child ≡ below = neighbours-same child below (length keys + v) q (omega arith) s (rw standing at (h.played.held child q c)) o in
-    rw (← same) standing in
+    let at_child : get_or winners child 0 ≡ v = sym w ∙ above in
+    let same : child ≡ below = neighbours-same child below (length keys + v) q (omega arith) s (rw at_child at (h.played.held child q c)) o in
+    rw (← same) at_child in
     elim (h.ahead (below / 2) some (omega arith)).one_of_two [
       | inl w ↦ here (2 * (below / 2)) (omega (arith, h.played.places)) (omega arith) (omega arith) w
       | inr w ↦ here (2 * (below / 2) + 1) (omega (arith, h.played.places)) (omega arith) (omega arith) w

@@ -2,7 +2,7 @@
 use Rattle.std.specs.Prelude.{◌≡◌, ℕ, List, [], ◌∷◌, ◌++◌, length, slice_set, Option, Some, None}
 use Rattle.event_heap.specs.declared.node.Item.{Item}
 use Rattle.event_heap.specs.declared.node.Node.{Node}
-use Rattle.event_heap.specs.Inner.Stands.{node_at}
+use Rattle.event_heap.specs.Inner.NodeTrees.{node_at}
 
 -- a heap of one event
 abbrev pub lone_node : Item → Node

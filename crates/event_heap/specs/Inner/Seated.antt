@@ -1,7 +1,7 @@
 -- A node with another heap below it.
 use Rattle.std.specs.Prelude.{ℕ, ◌+◌, ◌<◌, cond, nat_lt, List, length, Some, IsSome}
 use Rattle.event_heap.specs.declared.node.Node.{Node}
-use Rattle.event_heap.specs.Inner.Stands.{item_at}
+use Rattle.event_heap.specs.Inner.NodeTrees.{item_at}
 
 -- a node with another heap on its right
 abbrev pub hung : Node → ℕ → Node

@@ -3,7 +3,7 @@ use Rattle.std.specs.Prelude.{◌≡◌, ℕ, ◌+◌, ◌≤◌, ◌<◌, ◌^�
 use Rattle.model_core.specs.EventGraph.{EventGraph}
 use Rattle.model_core.specs.Run.Changes.{taken_from}
 use Rattle.model_core.specs.Run.Edges.{EdgeState}
-use Rattle.run_control.specs.SoundRun.{Known}
+use Rattle.run_control.specs.SoundRun.{AreOfVertices}
 
 -- the seed of the run; the pending list and the words taken; and for how many events more the list has room, how many were
 -- ever scheduled in it, and for how many vertices it was made
@@ -29,4 +29,4 @@ pub record PlanKeeps (words events : ℕ) (p later : Planning) : Type 0 where
   pub numbered : later.numbered ≤ p.numbered + events
   pub room : p.spare + length p.planned.pending ≤ later.spare + length later.planned.pending
   pub vertices : later.vertices ≡ p.vertices
-  pub known : Known p.vertices p.planned.pending → Known later.vertices later.planned.pending
+  pub of_vertices : AreOfVertices p.vertices p.planned.pending → AreOfVertices later.vertices later.planned.pending

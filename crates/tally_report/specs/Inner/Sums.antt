@@ -2,7 +2,6 @@
 use Rattle.std.specs.Prelude.{ℕ, suc, ◌+◌, ◌-◌, ◌^◌, min, max, ℤ, pos, ◌+ℤ◌, ◌*ℤ◌, cond, ◌==◌, List, [], ◌∷◌, ◌++◌, map, Some, None}
 use Rattle.std.specs.List.{range_with_len}
 use Rattle.model_core.specs.EventGraph.{EventGraph, Watched, WatchedVariable, WatchedVertex}
-use Rattle.model_core.specs.Run.State.{State, cells_of}
 use Rattle.model_core.specs.Run.Machine.{Note, At, On}
 use Rattle.model_core.specs.Saved.Cells.{cells_declared}
 use Rattle.tally_report.specs.declared.item.Item.{Item}
@@ -17,11 +16,6 @@ use Rattle.tally_report.specs.CellCourse.{widened, value_noted}
 abbrev pub IsSmall : ℕ → Item → Type 0
 IsSmall ticks (items.Cell span area) = IsSmallArea ticks area
 IsSmall ticks (items.Count n) = Unit
-
--- the values that a state holds of something watched
-abbrev pub cells_there : State → Watched → List ℤ
-cells_there s (WatchedVariable v) = cells_of s v
-cells_there s (WatchedVertex v) = []
 
 -- the last value holds on up to a time
 abbrev pub held_until : ℕ → ℕ → Item → Item

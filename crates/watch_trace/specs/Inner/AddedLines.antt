@@ -2,18 +2,13 @@
 use Rattle.std.proofs.Common.{◌≡◌, ℕ, Bool, List, [], ◌∷◌, ◌++◌, Option, Some, None, ◌∙◌, ap, append_assoc, append-nil, subst, sym, refl}
 use Rattle.sig_base.specs.Faults.{HasRisen}
 use Rattle.sig_base.specs.Sink.{GrowsBy}
-use Rattle.sig_base.proofs.SinkLemmas.{GrowsBy-append}
+use Rattle.sig_base.proofs.SinkLemmas.{GrowsBy-nothing, GrowsBy-append}
 use Rattle.watch_trace.specs.Following.{settled_after}
 use Rattle.std.proofs.lemmas.Grind.{flat_map-append}
 use Rattle.model_core.specs.EventGraph.{EventGraph}
 use Rattle.model_core.specs.Run.Machine.{Note}
 use Rattle.model_core.specs.Text.HistoryText.{note_line}
 use Rattle.watch_trace.specs.Inner.Sheets.{Sheet, Moves, Joins, Adds, AddsLines}
-
--- nothing was written
-pub GrowsBy-nothing : (o : Option (List ℕ)) → GrowsBy o o []
-GrowsBy-nothing None = tt
-GrowsBy-nothing (Some x) = ap Some (sym (append-nil x))
 
 -- after bytes, and then others
 settled-both : (a b : List ℕ) (x y z : Bool) → y ≡ settled_after a x → z ≡ settled_after b y → z ≡ settled_after (a ++ b) x

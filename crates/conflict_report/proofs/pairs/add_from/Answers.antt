@@ -15,5 +15,5 @@ loop-b-preserved c =
     let g = graph_of c.args.model.now in
     let a = c.args.a in
     let b = c.loop-b.b in
-    let told = reasons-found g c.args.tables.now c.in_ok-partners.partners a b c.requires.tables c.in_ok-partners.ensures c.requires.exists (omega (arith, c.loop-b-test.true, c.len-b-end.ensures, length-map c.args.model.now.vertices vertex_of)) in
-    (omega arith, next_joined (conflict_if g a) c.args.pairs.now c.loop-b.pairs _ a b below (c.in_ok-add_if.ensures ∙ ap (λ (r : Reasons). c.loop-b.pairs ++ cond (is_conflict r) (record { a = a; b = b; reasons = r } ∷ []) []) told) so_far)
+    let found = reasons-found g c.args.tables.now c.in_ok-partners.partners a b c.requires.tables c.in_ok-partners.ensures c.requires.exists (omega (arith, c.loop-b-test.true, c.len-b-end.ensures, length-map c.args.model.now.vertices vertex_of)) in
+    (omega arith, next_joined (conflict_if g a) c.args.pairs.now c.loop-b.pairs _ a b below (c.in_ok-add_if.ensures ∙ ap (λ (r : Reasons). c.loop-b.pairs ++ cond (is_conflict r) (record { a = a; b = b; reasons = r } ∷ []) []) found) so_far)

@@ -1,5 +1,5 @@
 use Rattle.std.proofs.Common.{◌<◌, length, rules, Some, sym, ◌∙◌, arith}
-use Rattle.event_heap.proofs.StandsLaws.{root-there}
+use Rattle.event_heap.proofs.NodeTreeLaws.{root-there}
 use Rattle.event_heap.proofs.MergeSteps.{can_compare, top_there, apart_right, apart_hung, hung_on, below_none, below_hung, below_kept, seat_fits, seated_over, seated_rank, less_hung, less_kept, ticks_hung, ticks_kept, ticks_none}
 use Rattle.event_heap.proofs.merge.+merge_below.Goals as goal
 

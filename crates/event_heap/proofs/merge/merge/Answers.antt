@@ -1,5 +1,5 @@
 use Rattle.std.proofs.Common.{subst, Some}
-use Rattle.event_heap.specs.Inner.Stands.{TreesApart}
+use Rattle.event_heap.specs.Inner.NodeTrees.{TreesApart}
 use Rattle.event_heap.proofs.MergeSteps.{rebuilt_none, rebuilt_alone}
 use Rattle.event_heap.proofs.merge.merge.Goals as goal
 

@@ -15,5 +15,5 @@ with_its_parts g valid name variables tables watch vertices a b c d e =
 
 pub returns-clause-valid : goal.returns-clause-valid
 returns-clause-valid c =
-    with_its_parts (generated c.args.seed c.args.vertices) (c.generated_models_are_valid.ensures c.args.seed c.args.vertices c.requires.some c.requires.few) _ _ _ _ _
+    with_its_parts (generated c.args.seed c.args.vertices) (c.generated_models_are_valid.ensures c.args.seed c.args.vertices c.requires.some c.requires.few_vertices) _ _ _ _ _
     c.in_ok-copied_name.ensures c.in_ok-variables.ensures (ap (map table_of) c.new.ensures) c.in_ok-watched_counters.ensures c.in_ok-vertices_by_words.ensures

@@ -13,9 +13,9 @@ at_most_one CancelNext = omega arith
 at_most_one CancelEqual = omega arith
 at_most_one CancelAll = omega arith
 
-scheduled_by-few : (es : List EventEdge) → scheduled_by es ≤ length es
-scheduled_by-few [] = omega arith
-scheduled_by-few (e ∷ es) = omega (arith, at_most_one e.kind, scheduled_by-few es)
+scheduled_by-most : (es : List EventEdge) → scheduled_by es ≤ length es
+scheduled_by-most [] = omega arith
+scheduled_by-most (e ∷ es) = omega (arith, at_most_one e.kind, scheduled_by-most es)
 
 pub returns-then-edges-spare-clause-reserved : goal.returns-then-edges-spare-clause-reserved
-returns-then-edges-spare-clause-reserved g c = omega (arith, scheduled_by-few (map edge_of c.args.edges.now), length-map c.args.edges.now edge_of, c.if-edges-spare.true)
+returns-then-edges-spare-clause-reserved g c = omega (arith, scheduled_by-most (map edge_of c.args.edges.now), length-map c.args.edges.now edge_of, c.if-edges-spare.true)

@@ -19,7 +19,7 @@ loop-change-preserved c =
     record {
       made = made_more (make_change g c.args.streams.now.seed c.args.clk) (left_by_change g c.args.streams.now.seed c.args.clk) (map change_of c.args.changes.now) _ (map change_of (drop c.loop-change.change-index c.args.changes.now)) _ (change_of c.change-item.result) _ _
           (remaining_more change_of c.args.changes.now c.loop-change.change-index c.change-item.result (omega (arith, ap length c.as_slice-change-items.ensures)) (rw c.as_slice-change-items.ensures at c.change-item.is)) makes before.made;
-      inside = c.make.ensures.stays;
+      inside = c.make.ensures.stays_in_range;
       seed = c.make.ensures.seed ∙ before.seed;
       countable = λ stream. omega (arith, before.countable stream, c.make.ensures.counted stream);
     }

@@ -21,7 +21,7 @@ loop-i-preserved c =
     let stores = rw (to_z-of_z w64 (get_or c.args.values.now c.loop-i.i (pos 0)) (search rules), c.in_ok-store_at.was) at c.store_at.ensures.stores in
     record {
       stored = stored_more (graph_of c.args.model.now) c.args.places.now c.args.values.now c.args.state.now c.loop-i.i c.index-places-i.result c.loop-i.state c.store_at.new.state (omega arith) (omega (arith, c.requires.matched)) c.index-places-i.is (sym stores) c.loop-i.invariant.stored;
-      inside = c.store_at.ensures.stays;
+      inside = c.store_at.ensures.stays_in_range;
     }
 
 pub returns-clause-stores : goal.returns-clause-stores

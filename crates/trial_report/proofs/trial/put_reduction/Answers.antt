@@ -6,7 +6,7 @@ use Rattle.trial_report.proofs.SummaryLines.{measured_line}
 use Rattle.trial_report.proofs.trial.put_reduction.Goals as goal
 
 pub returns : goal.returns
-returns c = λ g told.
+returns c = λ g measured.
     let a = c.args in
     let old = a.out.now.items in
     let reduced = graph_of a.reduced.now.model in
@@ -17,5 +17,5 @@ returns c = λ g told.
     (one_more old c.put_applications.new.out.items _ (sized ++ applied) original
     (one_more old c.put_size.new.out.items _ sized applied c.in_ok-put_size.ensures
     (c.in_ok-put_applications.ensures ∙ ap (λ n. c.put_size.new.out.items ++ applications_line n) c.len.ensures))
-    (c.in_ok-put_run.ensures ∙ ap (λ (line : List ℕ). c.put_applications.new.out.items ++ line) (measured_line (codes "original") g a.seed a.until a.events a.run told)))
+    (c.in_ok-put_run.ensures ∙ ap (λ (line : List ℕ). c.put_applications.new.out.items ++ line) (measured_line (codes "original") g a.seed a.until a.events a.run measured)))
     c.put_run_of.ensures

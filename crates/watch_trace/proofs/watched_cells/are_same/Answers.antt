@@ -1,6 +1,6 @@
 use Rattle.std.proofs.Common.{sym, ◌∙◌}
 use Rattle.model_core.specs.Code.Views.{watched_of}
-use Rattle.watch_trace.specs.Inner.KeptNotes.{values_watched}
+use Rattle.sig_expr.specs.WatchedValues.{values_watched}
 use Rattle.watch_trace.proofs.ValuesAlong.{they_differ, so_far_same}
 use Rattle.watch_trace.proofs.watched_cells.are_same.Goals as goal
 

@@ -2,7 +2,7 @@ use Rattle.std.proofs.Common.{◌≡◌, ◌+◌, length, map, drop}
 use Rattle.std.specs.List.{flat_map}
 use Rattle.model_core.specs.Run.Pending.{same_values}
 use Rattle.model_core.specs.Code.Views.{watched_of}
-use Rattle.watch_trace.specs.Inner.KeptNotes.{values_watched}
+use Rattle.sig_expr.specs.WatchedValues.{values_watched}
 use Rattle.watch_trace.proofs.watched_cells.are_same.Given as goal
 
 abbrev pub invariant-loop-watched : goal.invariant-loop-watched

@@ -1,7 +1,7 @@
 use Rattle.std.proofs.Common.{arith}
 use Rattle.model_core.specs.declared.model.Watch.TheVariants as things
 use Rattle.model_core.specs.Code.Views.{watched_of}
-use Rattle.watch_trace.specs.Inner.KeptNotes.{values_watched}
+use Rattle.sig_expr.specs.WatchedValues.{values_watched}
 use Rattle.watch_trace.proofs.ValuesTaken.{none_taken, place_fits, one_taken, whole_taken, whole_is_new}
 use Rattle.watch_trace.proofs.watched_cells.take_values.Goals as goal
 

@@ -1,5 +1,5 @@
 use Rattle.model_core.specs.Code.Views.{watched_of}
-use Rattle.watch_trace.specs.Inner.KeptNotes.{values_watched}
+use Rattle.sig_expr.specs.WatchedValues.{values_watched}
 use Rattle.watch_trace.proofs.ValuesTaken.{TakenAlong}
 use Rattle.watch_trace.proofs.watched_cells.take_values.Given as goal
 

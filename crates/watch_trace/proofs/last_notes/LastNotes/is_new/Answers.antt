@@ -7,7 +7,7 @@ use Rattle.model_core.specs.Run.Pending.{same_values}
 use Rattle.model_core.specs.Run.History.{watched_values}
 use Rattle.model_core.specs.Code.Views.{graph_of, watched_of}
 use Rattle.model_core.specs.Saved.Cells.{watched_sizes, cut_up}
-use Rattle.watch_trace.specs.Inner.KeptNotes.{values_watched}
+use Rattle.sig_expr.specs.WatchedValues.{values_watched}
 use Rattle.watch_trace.specs.Tracing.{Tracing}
 use Rattle.watch_trace.proofs.KeptValues.{watched-fit, values_same}
 use Rattle.watch_trace.proofs.last_notes.LastNotes.is_new.Goals as goal

@@ -7,7 +7,7 @@ use Rattle.model_core.specs.Run.Pending.{same_values}
 use Rattle.model_core.specs.Run.History.{watched_values}
 use Rattle.model_core.specs.Code.Views.{graph_of, watched_of}
 use Rattle.model_core.specs.Saved.Cells.{watched_sizes, cut_up}
-use Rattle.watch_trace.specs.Inner.KeptNotes.{values_watched}
+use Rattle.sig_expr.specs.WatchedValues.{values_watched}
 use Rattle.watch_trace.specs.Tracing.{Tracing, is_new}
 use Rattle.watch_trace.proofs.KeptValues.{watched-fit, values_taken, values_same, new_if_kept}
 use Rattle.watch_trace.proofs.last_notes.LastNotes.note.Goals as goal

@@ -5,33 +5,33 @@ use Rattle.std.proofs.lemmas.Bool.Decides.{nat_tests}
 use Rattle.event_heap.specs.declared.node.Item.{Item}
 use Rattle.event_heap.specs.declared.node.Node.{Node}
 use Rattle.event_heap.specs.Inner.Tree.{Tree, Leaf, Fork, leftist_rank, times_in, seat}
-use Rattle.event_heap.specs.Inner.Stands.{no_node, node_at, item_at, items_of, rank_at, IsFork, IsTreeFrom, IsRebuilt}
+use Rattle.event_heap.specs.Inner.NodeTrees.{no_node, node_at, item_at, items_of, rank_at, IsFork, IsTreeFrom, IsRebuilt}
 use Rattle.event_heap.specs.Inner.Seated.{hung, seated}
 use Rattle.event_heap.proofs.TreeLaws.{times_in-seat}
 
 -- a tree depends on its own nodes alone
-pub stands-along : (old new : List Node) (t : Tree) (root : Option ℕ) → length old ≤ length new → ((q : ℕ) → 0 < times_in q t → node_at new q ≡ node_at old q) → IsTreeFrom old t root → IsTreeFrom new t root
-stands-along old new Leaf None len same h = tt
-stands-along old new Leaf (Some i) len same h = h
-stands-along old new (Fork p x l r) None len same h = h
-stands-along old new (Fork p x l r) (Some i) len same h =
+pub tree-along : (old new : List Node) (t : Tree) (root : Option ℕ) → length old ≤ length new → ((q : ℕ) → 0 < times_in q t → node_at new q ≡ node_at old q) → IsTreeFrom old t root → IsTreeFrom new t root
+tree-along old new Leaf None len same h = tt
+tree-along old new Leaf (Some i) len same h = h
+tree-along old new (Fork p x l r) None len same h = h
+tree-along old new (Fork p x l r) (Some i) len same h =
     let here : node_at new p ≡ node_at old p = same p (grind (arith, nat_tests)) in
     let fork : IsFork new p x l r = record { within = omega (arith, h.1.within); item = ap (λ n. n.item) here ∙ h.1.item; rank_is = ap (λ n. n.rank) here ∙ h.1.rank_is; left_rank_is = ap (λ n. n.left_rank) here ∙ h.1.left_rank_is } in (
       h.0,
       fork,
-      stands-along old new l (node_at new p).left len (λ q m. same q (omega arith)) (subst (λ (n : Node). IsTreeFrom old l n.left) (sym here) h.2),
-      stands-along old new r (node_at new p).right len (λ q m. same q (omega arith)) (subst (λ (n : Node). IsTreeFrom old r n.right) (sym here) h.3),
+      tree-along old new l (node_at new p).left len (λ q m. same q (omega arith)) (subst (λ (n : Node). IsTreeFrom old l n.left) (sym here) h.2),
+      tree-along old new r (node_at new p).right len (λ q m. same q (omega arith)) (subst (λ (n : Node). IsTreeFrom old r n.right) (sym here) h.3),
     )
 
-pub stands-kept : (old new : List Node) (t : Tree) (root : Option ℕ) → length new ≡ length old → ((q : ℕ) → 0 < times_in q t → node_at new q ≡ node_at old q) → IsTreeFrom old t root → IsTreeFrom new t root
-stands-kept old new t root len same h = stands-along old new t root (omega arith) same h
+pub tree-kept : (old new : List Node) (t : Tree) (root : Option ℕ) → length new ≡ length old → ((q : ℕ) → 0 < times_in q t → node_at new q ≡ node_at old q) → IsTreeFrom old t root → IsTreeFrom new t root
+tree-kept old new t root len same h = tree-along old new t root (omega arith) same h
 
 -- the rank kept at the root is that of the tree
-pub rank_at-stands : (nodes : List Node) (t : Tree) (root : Option ℕ) → IsTreeFrom nodes t root → rank_at nodes root ≡ leftist_rank t
-rank_at-stands nodes Leaf None h = refl
-rank_at-stands nodes Leaf (Some i) h = absurd h
-rank_at-stands nodes (Fork p x l r) None h = absurd h
-rank_at-stands nodes (Fork p x l r) (Some i) h = rw (h.0) h.1.rank_is
+pub rank_at-tree : (nodes : List Node) (t : Tree) (root : Option ℕ) → IsTreeFrom nodes t root → rank_at nodes root ≡ leftist_rank t
+rank_at-tree nodes Leaf None h = refl
+rank_at-tree nodes Leaf (Some i) h = absurd h
+rank_at-tree nodes (Fork p x l r) None h = absurd h
+rank_at-tree nodes (Fork p x l r) (Some i) h = rw (h.0) h.1.rank_is
 
 pub root-there : (nodes : List Node) (t : Tree) (root : Option ℕ) → IsTreeFrom nodes t root → IfSome root (λ i. i < length nodes)
 root-there nodes Leaf None h = tt
@@ -51,10 +51,10 @@ seated-item n c =
     ]
 
 -- a node with its two heaps is a tree, once its rank is set
-seated-stands : (mid new : List Node) (p : ℕ) (x : Item) (l u : Tree) (c : ℕ) → p < length mid → item_at mid p ≡ Some x → (node_at mid p).left_rank ≡ leftist_rank l → c ≡ leftist_rank u → IsTreeFrom mid l (node_at mid p).left → IsTreeFrom mid u (node_at mid p).right → times_in p l ≡ 0 → times_in p u ≡ 0 → length new ≡ length mid → node_at new p ≡ seated (node_at mid p) c → ((q : ℕ) → q ≢ p → node_at new q ≡ node_at mid q) → IsTreeFrom new (seat p x l u) (Some p)
-seated-stands mid new p x l u c within item rank_left rank_under left under no_l no_u len here others =
-    let kept_l : IsTreeFrom new l (node_at mid p).left = stands-kept mid new l (node_at mid p).left len (λ q m. others q (λ e. absurd (omega (arith, m, subst (λ (q : ℕ). times_in q l ≡ 0) (sym e) no_l)))) left in
-    let kept_u : IsTreeFrom new u (node_at mid p).right = stands-kept mid new u (node_at mid p).right len (λ q m. others q (λ e. absurd (omega (arith, m, subst (λ (q : ℕ). times_in q u ≡ 0) (sym e) no_u)))) under in
+seated-tree : (mid new : List Node) (p : ℕ) (x : Item) (l u : Tree) (c : ℕ) → p < length mid → item_at mid p ≡ Some x → (node_at mid p).left_rank ≡ leftist_rank l → c ≡ leftist_rank u → IsTreeFrom mid l (node_at mid p).left → IsTreeFrom mid u (node_at mid p).right → times_in p l ≡ 0 → times_in p u ≡ 0 → length new ≡ length mid → node_at new p ≡ seated (node_at mid p) c → ((q : ℕ) → q ≢ p → node_at new q ≡ node_at mid q) → IsTreeFrom new (seat p x l u) (Some p)
+seated-tree mid new p x l u c within item rank_left rank_under left under no_l no_u len here others =
+    let kept_l : IsTreeFrom new l (node_at mid p).left = tree-kept mid new l (node_at mid p).left len (λ q m. others q (λ e. absurd (omega (arith, m, subst (λ (q : ℕ). times_in q l ≡ 0) (sym e) no_l)))) left in
+    let kept_u : IsTreeFrom new u (node_at mid p).right = tree-kept mid new u (node_at mid p).right len (λ q m. others q (λ e. absurd (omega (arith, m, subst (λ (q : ℕ). times_in q u ≡ 0) (sym e) no_u)))) under in
     elim (nat_lt (leftist_rank l) (leftist_rank u)) as (λ b. nat_lt (leftist_rank l) (leftist_rank u) ≡ b → IsTreeFrom new (cond b (Fork p x u l) (Fork p x l u)) (Some p)) [
       | true ↦ λ e.
           let is : node_at new p ≡ record (node_at mid p) { left = (node_at mid p).right; right = (node_at mid p).left; rank = (node_at mid p).left_rank + 1; left_rank = c } = here ∙ rw (rank_left, rank_under, e) refl in (
@@ -103,7 +103,7 @@ hung_already old p below within e = record {
 
 -- a tree without the node is as it was
 pub hung_is_tree : (old new : List Node) (p below : ℕ) (t : Tree) (root : Option ℕ) → IsHung old new p below → times_in p t ≡ 0 → IsTreeFrom old t root → IsTreeFrom new t root
-hung_is_tree old new p below t root k none h = stands-kept old new t root k.count (λ q m. k.others q (λ e. absurd (omega (arith, m, subst (λ (q : ℕ). times_in q t ≡ 0) (sym e) none)))) h
+hung_is_tree old new p below t root k none h = tree-kept old new t root k.count (λ q m. k.others q (λ e. absurd (omega (arith, m, subst (λ (q : ℕ). times_in q t ≡ 0) (sym e) none)))) h
 
 -- a node over its left heap and one that was rebuilt on its right
 pub seat-rebuilds : (old at mid new : List Node) (p : ℕ) (x : Item) (l r u : Tree) (below c : ℕ) → IsFork old p x l r → IsTreeFrom old l (node_at old p).left → IsHung old at p below → IsRebuilt at mid u (Some below) → ((q : ℕ) → cond (q == p) 1 0 + (times_in q l + times_in q u) ≤ 1) → c ≡ leftist_rank u → new ≡ set mid p (seated (node_at mid p) c) → IsRebuilt old new (seat p x l u) (Some p)
@@ -117,10 +117,10 @@ seat-rebuilds old at mid new p x l r u below c fork left k rebuilt apart rank_un
     let elsewhere : (q : ℕ) → q ≢ p → node_at new q ≡ node_at mid q = λ q ne. rw e (get_or-set_other mid p q (seated (node_at mid p) c) no_node ne) in
     let len : length new ≡ length mid = rw e (length-set mid p (seated (node_at mid p) c)) in
     let left_at : IsTreeFrom at l (node_at old p).left = hung_is_tree old at p below l (node_at old p).left k no_l left in
-    let left_mid : IsTreeFrom mid l (node_at mid p).left = subst (λ (n : Node). IsTreeFrom mid l n.left) (sym is_p) (stands-kept at mid l (node_at old p).left rebuilt.count (λ q m. rebuilt.others q (omega (arith, apart q))) left_at) in
-    let under_mid : IsTreeFrom mid u (node_at mid p).right = subst (λ (n : Node). IsTreeFrom mid u n.right) (sym is_p) rebuilt.stands in
+    let left_mid : IsTreeFrom mid l (node_at mid p).left = subst (λ (n : Node). IsTreeFrom mid l n.left) (sym is_p) (tree-kept at mid l (node_at old p).left rebuilt.count (λ q m. rebuilt.others q (omega (arith, apart q))) left_at) in
+    let under_mid : IsTreeFrom mid u (node_at mid p).right = subst (λ (n : Node). IsTreeFrom mid u n.right) (sym is_p) rebuilt.is_tree in
     record {
-      stands = seated-stands mid new p x l u c within (ap (λ n. n.item) is_p ∙ fork.item) (ap (λ n. n.left_rank) is_p ∙ fork.left_rank_is) rank_under left_mid under_mid no_l no_u len here elsewhere;
+      is_tree = seated-tree mid new p x l u c within (ap (λ n. n.item) is_p ∙ fork.item) (ap (λ n. n.left_rank) is_p ∙ fork.left_rank_is) rank_under left_mid under_mid no_l no_u len here elsewhere;
       others = λ q none.
           let apart_q : cond (q == p) 1 0 + (times_in q l + times_in q u) ≡ 0 = sym (times_in-seat q p x l u) ∙ none in
           let ne = not_here q p _ apart_q in

@@ -46,7 +46,7 @@ pub record TreesApart (nodes : List Node) (s t : Tree) (a b : Option ℕ) : Type
 
 -- the nodes from the place on are the tree, all others are as they were, and each node keeps its event
 pub record IsRebuilt (old new : List Node) (t : Tree) (root : Option ℕ) : Type 0 where
-  pub stands : IsTreeFrom new t root
+  pub is_tree : IsTreeFrom new t root
   pub others : (p : ℕ) → times_in p t ≡ 0 → node_at new p ≡ node_at old p
   pub count : length new ≡ length old
   pub items : items_of new ≡ items_of old

@@ -27,31 +27,31 @@ latest_at (At time values ∷ notes) since = latest_at notes (max since time)
 latest_at (On time place values ∷ notes) since = latest_at notes since
 
 -- a sum after notes
-abbrev sum_behind : EventGraph → List Note → ℕ → Sum → Sum
-sum_behind g [] since s = s
-sum_behind g (At time values ∷ notes) since s = sum_behind g notes (max since time) (sum_at g values since (max since time) s)
-sum_behind g (On time place values ∷ notes) since s = sum_behind g notes since (sum_on place s)
+abbrev sum_after_notes : EventGraph → List Note → ℕ → Sum → Sum
+sum_after_notes g [] since s = s
+sum_after_notes g (At time values ∷ notes) since s = sum_after_notes g notes (max since time) (sum_at g values since (max since time) s)
+sum_after_notes g (On time place values ∷ notes) since s = sum_after_notes g notes since (sum_on place s)
 
-sums-behind : (g : EventGraph) (notes : List Note) (t : Tallied) → (after_notes g notes t).sums ≡ map (sum_behind g notes t.since) t.sums
-sums-behind g [] t = sym (map-same t.sums)
+sums-after_notes : (g : EventGraph) (notes : List Note) (t : Tallied) → (after_notes g notes t).sums ≡ map (sum_after_notes g notes t.since) t.sums
+sums-after_notes g [] t = sym (map-same t.sums)
   where
     map-same : (xs : List Sum) → map (λ s. s) xs ≡ xs
     map-same [] = refl
     map-same (x ∷ xs) = ap (λ ys. x ∷ ys) (map-same xs)
-sums-behind g (At time values ∷ notes) t =
-    sums-behind g notes (after_note g (At time values) t) ∙ map-map (sum_behind g notes (max t.since time)) (sum_at g values t.since (max t.since time)) t.sums
-sums-behind g (On time place values ∷ notes) t =
-    sums-behind g notes (after_note g (On time place values) t) ∙ map-map (sum_behind g notes t.since) (sum_on place) t.sums
+sums-after_notes g (At time values ∷ notes) t =
+    sums-after_notes g notes (after_note g (At time values) t) ∙ map-map (sum_after_notes g notes (max t.since time)) (sum_at g values t.since (max t.since time)) t.sums
+sums-after_notes g (On time place values ∷ notes) t =
+    sums-after_notes g notes (after_note g (On time place values) t) ∙ map-map (sum_after_notes g notes t.since) (sum_on place) t.sums
 
-pub since-behind : (g : EventGraph) (notes : List Note) (t : Tallied) → (after_notes g notes t).since ≡ latest_at notes t.since
-since-behind g [] t = refl
-since-behind g (At time values ∷ notes) t = since-behind g notes (after_note g (At time values) t)
-since-behind g (On time place values ∷ notes) t = since-behind g notes (after_note g (On time place values) t)
+pub since-after_notes : (g : EventGraph) (notes : List Note) (t : Tallied) → (after_notes g notes t).since ≡ latest_at notes t.since
+since-after_notes g [] t = refl
+since-after_notes g (At time values ∷ notes) t = since-after_notes g notes (after_note g (At time values) t)
+since-after_notes g (On time place values ∷ notes) t = since-after_notes g notes (after_note g (On time place values) t)
 
-pub latest-behind : (g : EventGraph) (notes : List Note) (t : Tallied) → (after_notes g notes t).latest ≡ last_time t.latest notes
-latest-behind g [] t = refl
-latest-behind g (At time values ∷ notes) t = latest-behind g notes (after_note g (At time values) t)
-latest-behind g (On time place values ∷ notes) t = latest-behind g notes (after_note g (On time place values) t)
+pub latest-after_notes : (g : EventGraph) (notes : List Note) (t : Tallied) → (after_notes g notes t).latest ≡ last_time t.latest notes
+latest-after_notes g [] t = refl
+latest-after_notes g (At time values ∷ notes) t = latest-after_notes g notes (after_note g (At time values) t)
+latest-after_notes g (On time place values ∷ notes) t = latest-after_notes g notes (after_note g (On time place values) t)
 
 -- the latest `at` note comes no later than all notes
 pub latest_at-by : (notes : List Note) (since from to : ℕ) → since ≤ from → RisesTo from notes to → latest_at notes since ≤ to
@@ -63,7 +63,7 @@ latest_at-by (On time place values ∷ notes) since from to le (first, later) = 
 
 -- a sum at the end
 abbrev come_to : EventGraph → List Note → ℕ → ℕ → Sum → Item
-come_to g notes since end s = held_until (latest_at notes since) (max (latest_at notes since) end) (sum_behind g notes since s).item
+come_to g notes since end s = held_until (latest_at notes since) (max (latest_at notes since) end) (sum_after_notes g notes since s).item
 
 counted-or-not : (place index : ℕ) (span : _) (area : ℤ) (b : Bool)
     → (let s : Sum = record { place = place; index = index; item = items.Cell span area } in cond b (record s { item = occurred_once s.item }) s ≡ s)
@@ -77,33 +77,33 @@ module _ (g : EventGraph) (place index end : ℕ) where
   abbrev empty : Sum
   empty = cell_sum place index
 
-  cell-told : (notes : List Note) (since from to : ℕ) (span : Span) (area : ℤ) → since ≤ from → RisesTo from notes to
+  cell-comes : (notes : List Note) (since from to : ℕ) (span : Span) (area : ℤ) → since ≤ from → RisesTo from notes to
       → come_to g notes since end (cell span area) ≡ items.Cell (Some (span_from span (course g place index notes))) (area +ℤ area_from (record { since = since; value = span.last }) (course g place index notes) end)
-  cell-told [] since from to span area le rises =
+  cell-comes [] since from to span area le rises =
       let held : max since end - since ≡ end - since = omega arith in
       ap (λ n. items.Cell (Some span) (area +ℤ span.last *ℤ pos n)) held
-  cell-told (At time values ∷ notes) since from to span area le (first, later) =
+  cell-comes (At time values ∷ notes) since from to span area le (first, later) =
       let now : max since time ≡ time = omega (arith, le, first) in
       let value = value_noted g place index values in
-      let step = cell-told notes time time to (widened span value) (area +ℤ span.last *ℤ pos (time - since)) (omega arith) later in
+      let step = cell-comes notes time time to (widened span value) (area +ℤ span.last *ℤ pos (time - since)) (omega arith) later in
       ap (λ t. come_to g notes t end (cell (widened span value) (area +ℤ span.last *ℤ pos (t - since)))) now
       ∙ step
       ∙ ap (λ a. items.Cell (Some (span_from (widened span value) (course g place index notes))) a)
       (+ℤ_assoc area (span.last *ℤ pos (time - since)) (area_from (record { since = time; value = value }) (course g place index notes) end))
-  cell-told (On time at values ∷ notes) since from to span area le (first, later) =
-      ap (come_to g notes since end) (counted-or-not place index (Some span) area (place == at)) ∙ cell-told notes since time to span area (le_trans le first) later
+  cell-comes (On time at values ∷ notes) since from to span area le (first, later) =
+      ap (come_to g notes since end) (counted-or-not place index (Some span) area (place == at)) ∙ cell-comes notes since time to span area (le_trans le first) later
 
-  pub empty-told : (notes : List Note) (since from to : ℕ) → since ≤ from → RisesTo from notes to → come_to g notes since end empty ≡ item_of_notes g notes end (CellAt place index)
-  empty-told [] since from to le rises = refl
-  empty-told (At time values ∷ notes) since from to le (first, later) =
+  pub empty-comes : (notes : List Note) (since from to : ℕ) → since ≤ from → RisesTo from notes to → come_to g notes since end empty ≡ item_of_notes g notes end (CellAt place index)
+  empty-comes [] since from to le rises = refl
+  empty-comes (At time values ∷ notes) since from to le (first, later) =
       let now : max since time ≡ time = omega (arith, le, first) in
       let value = value_noted g place index values in
       let span : Span = record { least = value; greatest = value; last = value } in
       ap (λ t. come_to g notes t end (cell span (pos 0))) now
-      ∙ cell-told notes time time to span (pos 0) (omega arith) later
+      ∙ cell-comes notes time time to span (pos 0) (omega arith) later
       ∙ ap (λ a. items.Cell (Some (span_from span (course g place index notes))) a) (+ℤ_idl (area_from (record { since = time; value = value }) (course g place index notes) end))
-  empty-told (On time at values ∷ notes) since from to le (first, later) =
-      ap (come_to g notes since end) (counted-or-not place index None (pos 0) (place == at)) ∙ empty-told notes since time to (le_trans le first) later
+  empty-comes (On time at values ∷ notes) since from to le (first, later) =
+      ap (come_to g notes since end) (counted-or-not place index None (pos 0) (place == at)) ∙ empty-comes notes since time to (le_trans le first) later
 
 -- ---- a vertex
 
@@ -115,12 +115,12 @@ module _ (g : EventGraph) (place end : ℕ) where
   one-counted n true few = ap count (omega (arith, few))
   one-counted n false few = ap count (omega arith)
 
-  pub count-told : (notes : List Note) (since n : ℕ) → n + length notes < 2 ^ 64 → come_to g notes since end (count n) ≡ items.Count (n + occurrences place notes)
-  count-told [] since n few = ap items.Count (omega arith)
-  count-told (At time values ∷ notes) since n few = count-told notes (max since time) n (omega (arith, few))
-  count-told (On time at values ∷ notes) since n few =
+  pub count-comes : (notes : List Note) (since n : ℕ) → n + length notes < 2 ^ 64 → come_to g notes since end (count n) ≡ items.Count (n + occurrences place notes)
+  count-comes [] since n few = ap items.Count (omega arith)
+  count-comes (At time values ∷ notes) since n few = count-comes notes (max since time) n (omega (arith, few))
+  count-comes (On time at values ∷ notes) since n few =
       ap (come_to g notes since end) (one-counted n (place == at) (omega (arith, few)))
-      ∙ count-told notes since (n + cond (place == at) 1 0) (below (place == at))
+      ∙ count-comes notes since (n + cond (place == at) 1 0) (below (place == at))
       ∙ ap items.Count (omega arith)
     where
       below : (b : Bool) → n + cond b 1 0 + length notes < 2 ^ 64
@@ -148,16 +148,16 @@ first_tallied g = record { sums = sums_from g 0 g.watch; since = 0; latest = 0 }
 
 module _ (g : EventGraph) (notes : List Note) (to end : ℕ) (rises : RisesTo 0 notes to) (few : length notes < 2 ^ 64) where
   item-comes : (item : ItemOf) → come_to g notes 0 end (first_sum item) ≡ item_of_notes g notes end item
-  item-comes (CellAt place index) = empty-told g place index end notes 0 0 to (omega arith) rises
-  item-comes (VertexAt place) = count-told g place end notes 0 0 (omega (arith, few)) ∙ ap items.Count (omega arith)
+  item-comes (CellAt place index) = empty-comes g place index end notes 0 0 to (omega arith) rises
+  item-comes (VertexAt place) = count-comes g place end notes 0 0 (omega (arith, few)) ∙ ap items.Count (omega arith)
 
-  pub items_told : (t : Tallied) → t ≡ after_notes g notes (first_tallied g)
+  pub items-come : (t : Tallied) → t ≡ after_notes g notes (first_tallied g)
       → map (λ (s : Sum). held_until t.since (max t.since end) s.item) t.sums ≡ map (item_of_notes g notes end) (items_reported g)
-  items_told t is =
-      let sums : t.sums ≡ map (sum_behind g notes 0) (map first_sum (items_reported g)) =
-      ap (λ (t : Tallied). t.sums) is ∙ sums-behind g notes (first_tallied g) ∙ ap (map (sum_behind g notes 0)) (first-from g 0 g.watch) in
-      let since : t.since ≡ latest_at notes 0 = ap (λ (t : Tallied). t.since) is ∙ since-behind g notes (first_tallied g) in
+  items-come t is =
+      let sums : t.sums ≡ map (sum_after_notes g notes 0) (map first_sum (items_reported g)) =
+      ap (λ (t : Tallied). t.sums) is ∙ sums-after_notes g notes (first_tallied g) ∙ ap (map (sum_after_notes g notes 0)) (first-from g 0 g.watch) in
+      let since : t.since ≡ latest_at notes 0 = ap (λ (t : Tallied). t.since) is ∙ since-after_notes g notes (first_tallied g) in
       ap₂ (λ (n : ℕ) (xs : List Sum). map (λ (s : Sum). held_until n (max n end) s.item) xs) since sums
-      ∙ map-map (λ (s : Sum). held_until (latest_at notes 0) (max (latest_at notes 0) end) s.item) (sum_behind g notes 0) (map first_sum (items_reported g))
+      ∙ map-map (λ (s : Sum). held_until (latest_at notes 0) (max (latest_at notes 0) end) s.item) (sum_after_notes g notes 0) (map first_sum (items_reported g))
       ∙ map-map (come_to g notes 0 end) first_sum (items_reported g)
       ∙ map_alike (λ item. come_to g notes 0 end (first_sum item)) (item_of_notes g notes end) item-comes (items_reported g)

@@ -1,5 +1,6 @@
 -- The measure of a run that was followed from its beginning.
-use Rattle.std.proofs.Common.{◌≡◌, ℕ, ◌+◌, ◌-◌, ◌^◌, ◌<◌, ◌≤◌, List, [], ◌++◌, length, Option, None, refl, sym, ap, ap₂, ◌∙◌, subst, append-nil, arith}
+use Rattle.std.proofs.Common.{◌≡◌, ℕ, ◌+◌, ◌-◌, ◌<◌, ◌≤◌, List, [], ◌++◌, length, Option, None, refl, sym, ap, ap₂, ◌∙◌, subst, append-nil, arith}
+use Rattle.sig_base.specs.declared.limits.TheConstants.{EVENTS_MAX}
 use Rattle.model_core.specs.declared.model.Model.{Model}
 use Rattle.model_core.specs.Run.Step.{Configuration}
 use Rattle.model_core.specs.Run.Machine.{Note}
@@ -13,7 +14,7 @@ use Rattle.watch_trace.specs.Tracing.{Tracing, moment_of}
 use Rattle.watch_trace.specs.Following.{outcome_of, run_look, Completes, StepsLead, FollowKeeps}
 use Rattle.trial_report.specs.StepsMade.{steps_made}
 use Rattle.trial_report.specs.Inner.Counted.{CountsNotes}
-use Rattle.trial_report.specs.Inner.ToldByMeasures.{IsMeasureOf}
+use Rattle.trial_report.specs.Inner.RunMeasures.{IsMeasureOf}
 use Rattle.trial_report.proofs.StepsCounted.{from_there, none_at_rest, one_at_fault}
 use Rattle.trial_report.proofs.FewNotes.{few_notes}
 
@@ -70,12 +71,12 @@ at-start m seed room r t begun noted =
     let moment : Configuration → Option _ → Moment = λ c n. record { now = c; noted = n } in
     ap₂ moment (begun.now ∙ ap (λ (n : Model). (start (graph_of n) []).now) (sym begun.model)) noted
 
-pub tells : (m : Model) (room until events : ℕ) (r later : Running) (t after : Tracing) (outcome : Outcome) (count : ℕ) (notes rest : List Note)
-    → BegunRun m r.seed [] room r → t.noted ≡ None → events ≤ 2 ^ 40 → (outcome ≡ outcomes.WriteFault → ⊥) → (outcome ≡ outcomes.NoMemory → ⊥)
+pub run_measured : (m : Model) (room until events : ℕ) (r later : Running) (t after : Tracing) (outcome : Outcome) (count : ℕ) (notes rest : List Note)
+    → BegunRun m r.seed [] room r → t.noted ≡ None → events ≤ EVENTS_MAX → (outcome ≡ outcomes.WriteFault → ⊥) → (outcome ≡ outcomes.NoMemory → ⊥)
     → notes ++ rest ≡ (run_look until events r t).history → Completes (run_look until events r t) rest outcome → CountsNotes 0 count notes
     → StepsLead until events r t outcome later after → FollowKeeps events r t later after
     → IsMeasureOf (graph_of m) r.seed until events (record { outcome = outcome; events = later.turns; notes = count })
-tells m room until events r later t after outcome count notes rest begun noted few well roomy splits completes counted stands keeps =
+run_measured m room until events r later t after outcome count notes rest begun noted few well roomy splits completes counted leads_so keeps =
     let (is, none) = completed-so until events r later t after begun.turns keeps outcome rest well roomy completes in
     let whole : notes ≡ (run_look until events r t).history = sym (append-nil notes) ∙ ap (λ (x : List Note). notes ++ x) (sym none) ∙ splits in
     let short = few_notes (graph_of r.model) r.seed until events (moment_of r t) in
@@ -85,6 +86,6 @@ tells m room until events r later t after outcome count notes rest begun noted f
     subst (λ (x : Model). IsMeasureOf (graph_of x) r.seed until events (record { outcome = outcome; events = later.turns; notes = count })) begun.model
     (record {
       outcome = is ∙ ap (λ (b : Moment). outcome_of (look_from (graph_of r.model) r.seed until events b).standing) begins;
-      made = made until events r later t after begun.turns keeps outcome well roomy stands ∙ ap (steps_made (next_move (graph_of r.model) r.seed until) events) begins;
+      made = made until events r later t after begun.turns keeps outcome well roomy leads_so ∙ ap (steps_made (next_move (graph_of r.model) r.seed until) events) begins;
       noted = number ∙ ap (λ (b : Moment). length (look_from (graph_of r.model) r.seed until events b).history) begins;
     })
