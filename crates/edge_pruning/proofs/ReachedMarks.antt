@@ -10,13 +10,13 @@ use Rattle.model_core.specs.Rules.MarkedPlaces.{marked_of, is_marked, is_among, 
 use Rattle.model_core.specs.Rules.Entailed.{is_entailed_by, one_pair_further, entailed_marks}
 use Rattle.model_core.specs.Rules.Reached.{begins_reached, is_led_to, one_edge_further, reached_marks}
 use Rattle.model_core.specs.Rules.LeastRelations.{Reachable, reach_first, reach_watched, reach_over, Entailed, from_first, over_pair}
-use Rattle.mark_laws.specs.PlacePairs.{places_behind, pairs_from}
+use Rattle.mark_laws.specs.PlacePairs.{successors_of, pairs_from}
 use Rattle.mark_laws.proofs.Marks.{Marked}
 use Rattle.model_core.proofs.PlacesChanged.{same_number, same_on_range}
 use Rattle.mark_laws.proofs.EntailedMarks.{among-place, entailed-by, by-entailed, HoldEntailed, entailed_marks-entailed, entailed_marks-hold}
 use Rattle.model_core.proofs.Among.{Among, among-contained, contained-among, among-map, among-of_map, second_true, any-among, among-any}
 use Rattle.mark_laws.proofs.MarksBelow.{among-marked, marked-among, same_mark}
-use Rattle.mark_laws.proofs.PairsBehind.{behind-pairs, pairs-behind}
+use Rattle.mark_laws.proofs.PairsOfSuccessors.{successors-pairs, pairs-successors}
 use Rattle.edge_pruning.specs.Inner.Walk.{targets_of, targets_by_vertex, watched_vertices}
 
 -- ---- where one begins
@@ -48,21 +48,21 @@ has_edges [] k e h = absurd h
 has_edges (v ∷ vs) zero e h = omega arith
 has_edges (v ∷ vs) (suc k) e h = omega (arith, has_edges vs k e h)
 
-pub successors-targets : (vs : List EventVertex) (k : ℕ) → places_behind (targets_by_vertex vs) k ≡ targets_of (slice_index_or vs k no_vertex).edges
+pub successors-targets : (vs : List EventVertex) (k : ℕ) → successors_of (targets_by_vertex vs) k ≡ targets_of (slice_index_or vs k no_vertex).edges
 successors-targets [] k = refl
 successors-targets (v ∷ vs) zero = refl
 successors-targets (v ∷ vs) (suc k) = successors-targets vs k
 
 edge-pair : (vs : List EventVertex) (k : ℕ) (e : EventEdge) → Among e (slice_index_or vs k no_vertex).edges → Among (k, e.target) (pairs_from 0 (targets_by_vertex vs))
 edge-pair vs k e among =
-    behind-pairs (targets_by_vertex vs) 0 k k e.target (omega arith)
+    successors-pairs (targets_by_vertex vs) 0 k k e.target (omega arith)
     (subst (λ (ks : List ℕ). Among e.target ks) (sym (successors-targets vs k)) (among-map (λ (e : EventEdge). e.target) (slice_index_or vs k no_vertex).edges e among))
 
 pair-edge : (vs : List EventVertex) (k j : ℕ) → Among (k, j) (pairs_from 0 (targets_by_vertex vs)) → (e : EventEdge) × Among e (slice_index_or vs k no_vertex).edges × (e.target ≡ j)
 pair-edge vs k j among =
-    let (i, is, there) = pairs-behind (targets_by_vertex vs) 0 k j among in
+    let (i, is, there) = pairs-successors (targets_by_vertex vs) 0 k j among in
     let same : i ≡ k = omega (arith, is) in
-    among-of_map (λ (e : EventEdge). e.target) (slice_index_or vs k no_vertex).edges j (subst (λ (ks : List ℕ). Among j ks) (successors-targets vs k) (subst (λ (i : ℕ). Among j (places_behind (targets_by_vertex vs) i)) same there))
+    among-of_map (λ (e : EventEdge). e.target) (slice_index_or vs k no_vertex).edges j (subst (λ (ks : List ℕ). Among j ks) (successors-targets vs k) (subst (λ (i : ℕ). Among j (successors_of (targets_by_vertex vs) i)) same there))
 
 led-by : (vs : List EventVertex) (marks : List Bool) (k : ℕ) → is_led_to marks vs k ≡ true → is_entailed_by marks (pairs_from 0 (targets_by_vertex vs)) k ≡ true
 led-by vs marks k led =

@@ -6,6 +6,7 @@ use Rattle.std.specs.Option.{option_map, option_map_or}
 use Rattle.std.proofs.lemmas.Bool.Decides.{nat_tests}
 use Rattle.std.proofs.lemmas.List.{length-map}
 use Rattle.sig_base.specs.declared.limits.TheConstants.{STOP_MAX, EVENTS_MAX}
+use Rattle.sig_base.proofs.Tests.{true-int_le}
 use Rattle.model_core.specs.Run.State.{cell_count, within, in_ranges}
 use Rattle.model_core.specs.Run.Step.{vertex_at}
 use Rattle.model_core.specs.Text.Numbering as numbering
@@ -14,7 +15,6 @@ use Rattle.model_core.specs.Saved.Cells.{cell_variables, variables_watched}
 use Rattle.model_core.specs.Saved.GoodSnapshots.{number_or_zero, is_at_most, from_one_to, signed_values, all_known, fit_variables, carried_of, is_wide, JudgedPart, stream_parts, value_parts, noted_parts, has_parameters, pending_part, snapshot_parts, first_bad_part, bad_at, with_taken, saved_entry, saved_run}
 use Rattle.model_core.proofs.BothTrue.{and_first, and_second}
 use Rattle.model_core.proofs.RangesTogether.{in_ranges-append}
-use Rattle.bound_laws.proofs.Soundness.Ends.{le_of}
 use Rattle.job_answers.specs.SavedReading.{ReadsSaved}
 use Rattle.job_answers.proofs.ModelTerms.{EventGraph, EventVertex, Variable, same_bytes, WrittenNumber, place_of_vertex, SavedRun, IsWide, IsGoodEntry, IsGood}
 
@@ -93,7 +93,7 @@ noted_fit g (Some n) good = and_second (all_known n.values) (in_ranges (cell_var
 -- ---- pending events
 
 wide_so : (x : ℤ) → within (neg_ℤ (pos (2 ^ 63))) (pos (2 ^ 63 - 1)) x ≡ true → IsWide x
-wide_so x e = record { least = le_of _ _ (and_first _ _ e); greatest = le_of _ _ (and_second _ _ e) }
+wide_so x e = record { least = true-int_le _ _ (and_first _ _ e); greatest = true-int_le _ _ (and_second _ _ e) }
 
 all_wide : (values : List WrittenCarried) → list_all is_wide values ≡ true → AllByRecursion IsWide (map carried_of values)
 all_wide [] all = tt

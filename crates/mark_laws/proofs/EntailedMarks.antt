@@ -3,7 +3,6 @@ use Rattle.std.proofs.Common.{◌≡◌, ◌⊎◌, inl, inr, ℕ, zero, suc, �
 use Rattle.std.specs.List.{range_with_len}
 use Rattle.std.proofs.lemmas.List.FromFn.{length-map-range_with_len}
 use Rattle.std.proofs.lemmas.Bool.{and_from, and_parts, eqb-true}
-pub use Rattle.std.proofs.lemmas.Bool.{eqb-true as same-place}
 use Rattle.model_core.specs.Rules.MarkedPlaces.{is_marked, is_among, passes}
 use Rattle.model_core.specs.Rules.Entailed.{is_entailed_by, one_pair_further, entailed_marks}
 use Rattle.model_core.specs.Rules.LeastRelations.{Entailed, from_first, over_pair}

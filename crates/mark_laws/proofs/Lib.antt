@@ -5,7 +5,7 @@ pub mod EntailedMarks
 pub mod UnmarkedPlaces
 pub mod Ranks
 pub mod StayingMarks
-pub mod PairsBehind
+pub mod PairsOfSuccessors
 pub mod ReachedLong
 pub mod LeftInPlace
 pub mod WrittenAnew

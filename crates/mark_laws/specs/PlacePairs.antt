@@ -3,8 +3,8 @@ use Rattle.std.specs.Prelude.{ℕ, ◌+◌, List, [], ◌∷◌, ◌++◌, slice
 use Rattle.model_core.specs.Rules.Needed.{each_beside}
 
 -- the successors of a place
-abbrev pub places_behind : List (List ℕ) → ℕ → List ℕ
-places_behind next k = slice_index_or next k []
+abbrev pub successors_of : List (List ℕ) → ℕ → List ℕ
+successors_of next k = slice_index_or next k []
 
 -- each place with each of its successors, where so many places come before these
 abbrev pub pairs_from : ℕ → List (List ℕ) → List (ℕ × ℕ)

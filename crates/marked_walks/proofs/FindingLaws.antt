@@ -7,8 +7,8 @@ use Rattle.mark_laws.proofs.Marks.{Marked}
 use Rattle.model_core.proofs.Among.{Among, among-contained, contained-among, among-front, among-back, among-either}
 use Rattle.mark_laws.proofs.MarksBelow.{marked-within}
 use Rattle.mark_laws.proofs.EntailedMarks.{closed-entailed_marks}
-use Rattle.mark_laws.specs.PlacePairs.{places_behind, pairs_from}
-use Rattle.mark_laws.proofs.PairsBehind.{behind-pairs, pairs-behind}
+use Rattle.mark_laws.specs.PlacePairs.{successors_of, pairs_from}
+use Rattle.mark_laws.proofs.PairsOfSuccessors.{successors-pairs, pairs-successors}
 use Rattle.marked_walks.specs.Inner.Finding.{Found, is_unfound, find_one, find_all, find_nth, IsFollowed, Going}
 
 -- ---- one mark more
@@ -198,7 +198,7 @@ finding_begins first next f unmarked idle = record {
 
 -- ---- it goes on
 
-pub finding_goes : (first : List ℕ) (next : List (List ℕ)) (marks : List Bool) (rest : List ℕ) (k : ℕ) → Going first next (record { marks = marks; waiting = rest ++ k ∷ [] }) → Going first next (find_all (record { marks = marks; waiting = rest }) (places_behind next k))
+pub finding_goes : (first : List ℕ) (next : List (List ℕ)) (marks : List Bool) (rest : List ℕ) (k : ℕ) → Going first next (record { marks = marks; waiting = rest ++ k ∷ [] }) → Going first next (find_all (record { marks = marks; waiting = rest }) (successors_of next k))
 finding_goes first next marks rest k ok = record {
   long = a.long ∙ ok.long;
   entailed = λ j m. entails j m (a.from j m);
@@ -210,29 +210,29 @@ finding_goes first next marks rest k ok = record {
   f = record { marks = marks; waiting = rest }
 
   u : Found
-  u = find_all f (places_behind next k)
+  u = find_all f (successors_of next k)
 
-  a : Adds f u (places_behind next k)
-  a = adds_all f (places_behind next k)
+  a : Adds f u (successors_of next k)
+  a = adds_all f (successors_of next k)
 
   waits_here : (j : ℕ) → Among j (rest ++ k ∷ []) → Marked marks j
   waits_here j h = ok.waits j (contained-among (rest ++ k ∷ []) j h)
 
-  entails : (j : ℕ) → Marked u.marks j → Marked marks j ⊎ (Among j (places_behind next k) × Among j u.waiting) → Entailed (length next) first (pairs_from 0 next) j
+  entails : (j : ℕ) → Marked u.marks j → Marked marks j ⊎ (Among j (successors_of next k) × Among j u.waiting) → Entailed (length next) first (pairs_from 0 next) j
   entails j m (inl before) = ok.entailed j before
   entails j m (inr (h, there)) =
       over_pair k j (omega (arith, marked-within u.marks j m, a.long, ok.long)) (ok.entailed k (waits_here k (among-back rest (k ∷ []) k (inl refl))))
-      (contained-among (pairs_from 0 next) (k, j) (behind-pairs next 0 k k j (omega arith) h))
+      (contained-among (pairs_from 0 next) (k, j) (successors-pairs next 0 k k j (omega arith) h))
 
   waited : (j : ℕ) → Among j rest ⊎ Marked u.marks j → Marked u.marks j
   waited j (inl h) = a.kept j (waits_here j (among-front rest (k ∷ []) j h))
   waited j (inr m) = m
 
-  follows : (j : ℕ) → Marked marks j ⊎ (Among j (places_behind next k) × Among j u.waiting) → Contains u.waiting j ⊎ IsFollowed next u.marks j
+  follows : (j : ℕ) → Marked marks j ⊎ (Among j (successors_of next k) × Among j u.waiting) → Contains u.waiting j ⊎ IsFollowed next u.marks j
   follows j (inr h) = inl (contained-among u.waiting j h.1)
   follows j (inl m) = before (ok.followed j m) where
     followed_now : k ≡ j → IsFollowed next u.marks j
-    followed_now same i c below = a.to i (subst (λ (n : ℕ). Among i (places_behind next n)) (sym same) (among-contained (places_behind next j) i c)) (omega (arith, below, ok.long))
+    followed_now same i c below = a.to i (subst (λ (n : ℕ). Among i (successors_of next n)) (sym same) (among-contained (successors_of next j) i c)) (omega (arith, below, ok.long))
 
     waiting_before : Among j rest ⊎ Among j (k ∷ []) → Contains u.waiting j ⊎ IsFollowed next u.marks j
     waiting_before (inl h) = inl (contained-among u.waiting j (a.still j h))
@@ -252,9 +252,9 @@ pub finding_ends : (first : List ℕ) (next : List (List ℕ)) (f : Found) → G
 finding_ends first next f ok idle = closed-entailed_marks (length next) first (pairs_from 0 next) f.marks ok.long ok.entailed (record { begins = λ k among below. ok.begins k (contained-among first k among) below; leads = leads }) where
   leads : (j k : ℕ) → Marked f.marks j → Among (j, k) (pairs_from 0 next) → k < length next → Marked f.marks k
   leads j k m among below =
-      let (i, is, there) = pairs-behind next 0 j k among in
+      let (i, is, there) = pairs-successors next 0 j k among in
       let same : i ≡ j = omega (arith, is) in
-      by (subst (λ (n : ℕ). Among k (places_behind next n)) same there) (ok.followed j m) where
-        by : Among k (places_behind next j) → Contains f.waiting j ⊎ IsFollowed next f.marks j → Marked f.marks k
+      by (subst (λ (n : ℕ). Among k (successors_of next n)) same there) (ok.followed j m) where
+        by : Among k (successors_of next j) → Contains f.waiting j ⊎ IsFollowed next f.marks j → Marked f.marks k
         by there (inl c) = absurd (subst (λ (ks : List ℕ). Among j ks) idle (among-contained f.waiting j c))
-        by there (inr h) = h k (contained-among (places_behind next j) k there) below
+        by there (inr h) = h k (contained-among (successors_of next j) k there) below

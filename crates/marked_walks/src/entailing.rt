@@ -2,7 +2,7 @@
 
 ghost use Rattle.std.specs.Prelude.{◌≡◌, [], length, replicate, false, OnOk, IfOk};
 ghost use Rattle.model_core.specs.Rules.Entailed.{entailed_marks};
-ghost use Rattle.mark_laws.specs.PlacePairs.{places_behind, pairs_from};
+ghost use Rattle.mark_laws.specs.PlacePairs.{successors_of, pairs_from};
 ghost use Rattle.marked_walks.specs.Inner.Finding.{found_of, find_one, find_all, find_nth, Going};
 
 use crate::place_successors::PlaceSuccessors;
@@ -58,7 +58,7 @@ impl Finder {
     ) -> Result<(), NoMemory>
         ensures { OnOk result
             (found_of self.new
-            ≡ find_nth (found_of self.old) (places_behind (N.lists next.now) place) nth) }
+            ≡ find_nth (found_of self.old) (successors_of (N.lists next.now) place) nth) }
     {
         match next.nth_successor(place, nth) {
             Some(found) => self.find(found),
@@ -70,7 +70,7 @@ impl Finder {
     fn follow_one<N: PlaceSuccessors>(&mut self, next: &N, place: usize) -> Result<(), NoMemory>
         ensures { OnOk result
             (found_of self.new
-            ≡ find_all (found_of self.old) (places_behind (N.lists next.now) place)) }
+            ≡ find_all (found_of self.old) (successors_of (N.lists next.now) place)) }
     {
         for nth in 0..next.successor_count(place) {
             self.follow_nth(next, place, nth)?;

@@ -4,12 +4,12 @@ use Rattle.std.specs.Prelude.{IfSome}
 use Rattle.std.specs.Ordering.{int_eq}
 use Rattle.std.proofs.lemmas.List.{get_or-map}
 use Rattle.std.proofs.lemmas.Bool.{and_from}
+use Rattle.sig_base.proofs.Tests.{true-int_le, int_le-true}
 use Rattle.model_core.specs.declared.model.Var.{Var}
 use Rattle.model_core.specs.EventGraph.{EventGraph, Variable}
 use Rattle.model_core.specs.Run.State.{no_variable, variable_at}
 use Rattle.model_core.specs.Code.Views.{variable_of}
 use Rattle.model_core.proofs.BothTrue.{and_first, and_second}
-use Rattle.bound_laws.proofs.Soundness.Ends.{le_of, of_le}
 use Rattle.model_core.specs.declared.var_range.VarRange.{VarRange}
 use Rattle.model_core.specs.Ranges.OtherRanges.{declared_range}
 use Rattle.model_core.specs.Ranges.Inductive.{is_fixed, Encloses, FitsVariable}
@@ -29,8 +29,8 @@ module _ (g : EventGraph) (v : ℕ) (r : VarRange) where
       let three = and_first (int_le r.lo r.hi && int_le w.lo r.lo && int_le r.hi w.hi) _ e in
       let two = and_first (int_le r.lo r.hi && int_le w.lo r.lo) _ three in
       record {
-        ordered = le_of r.lo r.hi (and_first (int_le r.lo r.hi) _ two);
-        inside = record { low = le_of w.lo r.lo (and_second (int_le r.lo r.hi) _ two); high = le_of r.hi w.hi (and_second (int_le r.lo r.hi && int_le w.lo r.lo) _ three) };
+        ordered = true-int_le r.lo r.hi (and_first (int_le r.lo r.hi) _ two);
+        inside = record { low = true-int_le w.lo r.lo (and_second (int_le r.lo r.hi) _ two); high = true-int_le r.hi w.hi (and_second (int_le r.lo r.hi && int_le w.lo r.lo) _ three) };
         fixed = stays_told (is_fixed g v) (and_second (int_le r.lo r.hi && int_le w.lo r.lo && int_le r.hi w.hi) _ e);
       }
 
@@ -40,8 +40,8 @@ variable_there vars v found small is = get_or-map variable_of vars v found no_va
 
 pub holds_told : (r : VarRange) (o : Option VarRange) → encloses_kept r o ≡ true → IfSome o (Encloses r)
 holds_told r None e = tt
-holds_told r (Some k) e = record { low = le_of r.lo k.lo (and_first (int_le r.lo k.lo) _ e); high = le_of k.hi r.hi (and_second (int_le r.lo k.lo) _ e) }
+holds_told r (Some k) e = record { low = true-int_le r.lo k.lo (and_first (int_le r.lo k.lo) _ e); high = true-int_le k.hi r.hi (and_second (int_le r.lo k.lo) _ e) }
 
 pub told_holds : (r : VarRange) (o : Option VarRange) → IfSome o (Encloses r) → encloses_kept r o ≡ true
 told_holds r None h = refl
-told_holds r (Some k) h = and_from (int_le r.lo k.lo) (int_le k.hi r.hi) (of_le r.lo k.lo h.low) (of_le k.hi r.hi h.high)
+told_holds r (Some k) h = and_from (int_le r.lo k.lo) (int_le k.hi r.hi) (int_le-true r.lo k.lo h.low) (int_le-true k.hi r.hi h.high)

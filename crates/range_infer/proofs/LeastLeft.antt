@@ -3,10 +3,11 @@ use Rattle.std.proofs.Common.{◌≡◌, ℤ, pos, ◌+ℤ◌, ◌-ℤ◌, ◌�
 use Rattle.std.specs.Int.{int_min, int_max}
 use Rattle.std.specs.Ordering.{int_eq}
 use Rattle.std.proofs.lemmas.Int.{ints, clamps}
+use Rattle.sig_base.proofs.Tests.{int_le-true}
 use Rattle.model_core.specs.EventGraph.{Operator, Equal, NotEqual, Below, AtMost, Above, AtLeast}
 use Rattle.model_core.specs.Run.Value.{number_of}
 use Rattle.model_core.specs.Rules.Exclusive.{compares, is_comparison}
-use Rattle.bound_laws.proofs.Soundness.Ends.{of_le, of_lt}
+use Rattle.bound_laws.proofs.Soundness.Ends.{of_lt}
 use Rattle.model_core.specs.declared.var_range.VarRange.{VarRange}
 use Rattle.model_core.specs.Ranges.OtherRanges.{LiesIn}
 use Rattle.model_core.specs.Ranges.Refined.{numbers_left}
@@ -47,16 +48,16 @@ ends_hold Below n r is some = record {
   high = (record { low = some; high = omega (arith, ints, clamps) }, of_lt (int_min r.hi (n -ℤ pos 1)) n (omega (arith, ints, clamps)));
 }
 ends_hold AtMost n r is some = record {
-  low = (record { low = omega (arith, ints); high = omega (arith, ints, clamps, some) }, of_le r.lo n (omega (arith, ints, clamps, some)));
-  high = (record { low = some; high = omega (arith, ints, clamps) }, of_le (int_min r.hi n) n (omega (arith, ints, clamps)));
+  low = (record { low = omega (arith, ints); high = omega (arith, ints, clamps, some) }, int_le-true r.lo n (omega (arith, ints, clamps, some)));
+  high = (record { low = some; high = omega (arith, ints, clamps) }, int_le-true (int_min r.hi n) n (omega (arith, ints, clamps)));
 }
 ends_hold Above n r is some = record {
   low = (record { low = omega (arith, ints, clamps); high = some }, of_lt n (int_max r.lo (n +ℤ pos 1)) (omega (arith, ints, clamps)));
   high = (record { low = omega (arith, ints, clamps, some); high = omega (arith, ints) }, of_lt n r.hi (omega (arith, ints, clamps, some)));
 }
 ends_hold AtLeast n r is some = record {
-  low = (record { low = omega (arith, ints, clamps); high = some }, of_le n (int_max r.lo n) (omega (arith, ints, clamps)));
-  high = (record { low = omega (arith, ints, clamps, some); high = omega (arith, ints) }, of_le n r.hi (omega (arith, ints, clamps, some)));
+  low = (record { low = omega (arith, ints, clamps); high = some }, int_le-true n (int_max r.lo n) (omega (arith, ints, clamps)));
+  high = (record { low = omega (arith, ints, clamps, some); high = omega (arith, ints) }, int_le-true n r.hi (omega (arith, ints, clamps, some)));
 }
 ends_hold Equal n r is some = record {
   low = (record { low = omega (arith, ints, clamps); high = omega (arith, ints, clamps, some) }, of_eq (int_max r.lo n) n (omega (arith, ints, clamps, some)));

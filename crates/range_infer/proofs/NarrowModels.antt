@@ -4,6 +4,7 @@ use Rattle.std.specs.List.{AllByRecursion, flat_map, list_any}
 use Rattle.std.proofs.lemmas.Int.{ints}
 use Rattle.std.proofs.lemmas.List.{get_or_past}
 use Rattle.std.proofs.lemmas.Bool.Decides.{nat_tests}
+use Rattle.sig_base.proofs.Tests.{int_le-true}
 use Rattle.model_core.specs.declared.model.Kind.TheVariants as kinds
 use Rattle.model_core.specs.EventGraph.{EventGraph, EventVertex, EventEdge, StateChange, Variable}
 use Rattle.model_core.specs.Run.State.{no_variable, variable_at, within, in_range, initial_state}
@@ -13,7 +14,6 @@ use Rattle.model_core.specs.Rules.BoundsOfParts.{is_truth_kind}
 use Rattle.model_core.proofs.Among.{Among, first_true, second_true, among-any}
 use Rattle.model_core.proofs.EachOne.{every-front, every-after, every-flat_map, every-both}
 use Rattle.run_laws.proofs.InRange.{starts_in_range}
-use Rattle.bound_laws.proofs.Soundness.Ends.{of_le}
 use Rattle.model_core.specs.Rules.RangesHold.{ZeroToOne, TruthsAreDeclared}
 use Rattle.model_core.specs.declared.incoming.Incoming.{Incoming}
 use Rattle.model_core.specs.declared.var_range.VarRange.{VarRange}
@@ -47,7 +47,7 @@ begins_within : (vs : List Variable) (rs : List VarRange) → length rs ≡ leng
 begins_within [] rs e h k d below = absurd (omega (arith, below))
 begins_within (v ∷ vs) [] e h k d below = absurd (omega arith)
 begins_within (v ∷ vs) (r ∷ rs) e h zero d below =
-    let l = h 0 (omega arith) in ap₂ (λ (a b : Bool). a && b) (of_le r.lo v.initial l.low) (of_le v.initial r.hi l.high)
+    let l = h 0 (omega arith) in ap₂ (λ (a b : Bool). a && b) (int_le-true r.lo v.initial l.low) (int_le-true v.initial r.hi l.high)
 begins_within (v ∷ vs) (r ∷ rs) e h (suc k) d below = begins_within vs rs (omega arith) (λ k small. h (suc k) (omega arith)) k d (omega (arith, below))
 
 pub begins_in_range : (g : EventGraph) (ranges : List VarRange) → Fitting g ranges → Inductive g ranges → IsTrue (in_range (model_with_ranges g ranges) (initial_state (model_with_ranges g ranges)))

@@ -4,11 +4,12 @@ use Rattle.std.specs.Ordering.{int_eq}
 use Rattle.std.proofs.lemmas.Int.{ints, clamps}
 use Rattle.std.specs.Int.Signed.{≤ℤ_refl}
 use Rattle.sig_base.specs.declared.fault.FaultKind.TheVariants as faults
+use Rattle.sig_base.proofs.Tests.{true-int_le}
 use Rattle.model_core.specs.EventGraph.{EventGraph, Expression, Number, Negative, Operator, Equal, NotEqual, Below, AtMost, Above, AtLeast}
 use Rattle.model_core.specs.Run.State.{State, within}
 use Rattle.model_core.specs.Run.Value.{number_of, exact, operate, value_of}
 use Rattle.model_core.specs.Rules.Exclusive.{number_literal, literal_number}
-use Rattle.bound_laws.proofs.Soundness.Ends.{le_of, lt_of, of_not_lt, of_not_le}
+use Rattle.bound_laws.proofs.Soundness.Ends.{lt_of, of_not_lt, of_not_le}
 use Rattle.model_core.specs.declared.var_range.VarRange.{VarRange}
 use Rattle.model_core.specs.Ranges.OtherRanges.{LiesIn}
 use Rattle.model_core.specs.Ranges.Refined.{numbers_left, opposite_comparison}
@@ -41,7 +42,7 @@ below_left : (n x : ℤ) (r : VarRange) → LiesIn r x → int_lt x n ≡ true �
 below_left n x r i e = record { low = i.low; high = omega (arith, ints, clamps, lt_of x n e, i.high) }
 
 at_most_left : (n x : ℤ) (r : VarRange) → LiesIn r x → int_le x n ≡ true → LiesIn (numbers_left AtMost n r) x
-at_most_left n x r i e = record { low = i.low; high = omega (arith, ints, clamps, le_of x n e, i.high) }
+at_most_left n x r i e = record { low = i.low; high = omega (arith, ints, clamps, true-int_le x n e, i.high) }
 
 above_left : (n x : ℤ) (r : VarRange) → LiesIn r x → int_le x n ≡ false → LiesIn (numbers_left Above n r) x
 above_left n x r i e = record { low = omega (arith, ints, clamps, of_not_le x n e, i.low); high = i.high }

@@ -4,13 +4,14 @@ use Rattle.std.specs.Prelude.{IfSome}
 use Rattle.std.specs.Int.{int_min, int_max}
 use Rattle.std.proofs.lemmas.Int.{ints, clamps}
 use Rattle.sig_base.specs.declared.fault.FaultKind.TheVariants as faults
+use Rattle.sig_base.proofs.Tests.{true-int_le}
 use Rattle.model_core.specs.declared.bounds.Bounds.{Bounds}
 use Rattle.model_core.specs.EventGraph.{Variable}
 use Rattle.model_core.specs.Run.State.{within}
 use Rattle.model_core.specs.Run.Value.{OrFault}
 use Rattle.model_core.specs.Run.Changes.{kept}
 use Rattle.model_core.specs.Rules.BoundsHold.{NumberIn}
-use Rattle.bound_laws.proofs.Soundness.Ends.{le_of, lt_of, of_not_lt, of_not_le}
+use Rattle.bound_laws.proofs.Soundness.Ends.{lt_of, of_not_lt, of_not_le}
 use Rattle.model_core.specs.declared.var_range.VarRange.{VarRange}
 use Rattle.model_core.specs.Ranges.OtherRanges.{LiesIn, declared_range, with_range}
 use Rattle.model_core.specs.Ranges.Incoming.{nearest_declared, overlap, kept_range}
@@ -27,7 +28,7 @@ stands lo hi x = by (int_lt x lo) (int_le lo x) (int_le x hi) refl refl refl whe
   by : (a b c : Bool) → int_lt x lo ≡ a → int_le lo x ≡ b → int_le x hi ≡ c → SideOfRange lo hi x
   by true b c e f i = under (lt_of x lo e) (let no : int_le lo x ≡ false = grind (arith, ints) in ap (λ (t : Bool). t && int_le x hi) no) e
   by false false c e f i = absurd (omega (arith, ints, of_not_lt x lo e, of_not_le lo x f))
-  by false true true e f i = inside (of_not_lt x lo e) (le_of x hi i) (ap₂ (λ (s t : Bool). s && t) f i)
+  by false true true e f i = inside (of_not_lt x lo e) (true-int_le x hi i) (ap₂ (λ (s t : Bool). s && t) f i)
   by false true false e f i = over (of_not_lt x lo e) (of_not_le x hi i) (ap₂ (λ (s t : Bool). s && t) f i) e
 
 -- what a variable keeps of a value lies in a range

@@ -4,6 +4,7 @@ use Rattle.std.specs.Prelude.{slice_get}
 use Rattle.std.specs.List.{AllByRecursion, AllZip}
 use Rattle.std.proofs.lemmas.Int.{ints}
 use Rattle.sig_base.specs.Stream.{word}
+use Rattle.sig_base.proofs.Lists.{slice_index_or-all}
 use Rattle.model_core.specs.declared.model.Kind.{Kind}
 use Rattle.model_core.specs.declared.model.Kind.TheVariants as kinds
 use Rattle.model_core.specs.EventGraph.{EventGraph, Variable, EventVertex, EventEdge, Delay, Fixed, Drawn, EdgeKind, Schedule, Urgent, CancelNext, CancelEqual, CancelAll, Choice, Uniform, ByTable, Expression, Weighted, WeightTable}
@@ -24,12 +25,6 @@ use Rattle.bound_laws.proofs.Soundness.DeclaredRanges.{declared_sound}
 use Rattle.bound_laws.proofs.Soundness.DrawnValues.{word_small, choice_in}
 use Rattle.model_core.specs.Saved.SavedRun.{IsWide, IsGoodEntry}
 use Rattle.run_snapshot.proofs.WideValues.{WideRange, value-wide}
-
--- a property of each element, and of the default, holds at each place
-pub every-place : {A : Type 0} (P : A → Type 0) (xs : List A) (d : A) (k : ℕ) → AllByRecursion P xs → P d → P (slice_index_or xs k d)
-every-place P [] d k all p = p
-every-place P (x ∷ xs) d zero (here, all) p = here
-every-place P (x ∷ xs) d (suc k) (here, all) p = every-place P xs d k all p
 
 -- the image at a place
 got-image : {A B : Type 0} (f : A → B) (xs : List A) (d : A) (k : ℕ) (y : B) → slice_get (map f xs) k ≡ Some y → (k < length xs) × (f (slice_index_or xs k d) ≡ y)
@@ -52,7 +47,7 @@ written-wide v kinds.Range (lo, hi) = record { lo = signed-wide v.lo lo; hi = si
 
 pub ranges-wide : (g : EventGraph) → IsSpellable g → (v : ℕ) → WideRange (variable_at g v)
 ranges-wide g spelled v =
-    every-place WideRange g.variables _ v (every-map SpellableVariable WideRange (λ v s. written-wide v v.kind s.range) g.variables spelled.variables) (record { lo = signed-wide (pos 0) (omega arith); hi = signed-wide (pos 0) (omega arith) })
+    slice_index_or-all WideRange g.variables _ v (every-map SpellableVariable WideRange (λ v s. written-wide v v.kind s.range) g.variables spelled.variables) (record { lo = signed-wide (pos 0) (omega arith); hi = signed-wide (pos 0) (omega arith) })
 
 truth-declared : (v : Variable) (kind : Kind) → FitsKind kind v → kind ≡ kinds.Truth → ZeroToOne v
 truth-declared v kinds.Truth fits e = record { low = fits.least; high = fits.greatest }
@@ -60,7 +55,7 @@ truth-declared v kinds.Range fits e = cc
 
 truths-declared : (g : EventGraph) → AllByRecursion KeepsVariable g.variables → TruthsAreDeclared g.variables
 truths-declared g kept v =
-    every-place (λ (v : Variable). v.kind ≡ kinds.Truth → ZeroToOne v) g.variables _ v (every-map KeepsVariable _ (λ v k. truth-declared v v.kind k.range) g.variables kept) (λ e. cc)
+    slice_index_or-all (λ (v : Variable). v.kind ≡ kinds.Truth → ZeroToOne v) g.variables _ v (every-map KeepsVariable _ (λ v k. truth-declared v v.kind k.range) g.variables kept) (λ e. cc)
 
 -- ---- draws
 
@@ -74,8 +69,8 @@ drawn_value-wide g (Uniform lo hi) w tables kept small =
     let within = choice_in g (Uniform lo hi) (length g.tables) (parameters_of g) w tables kept small in
     record { least = omega (arith, ints, kept.0.least, within.low); greatest = omega (arith, ints, kept.1.greatest, within.high) }
 drawn_value-wide g (ByTable t) w tables kept small =
-    every-place IsWide (map (λ (r : Weighted). r.value) (slice_index_or g.tables t no_table).rows) (pos 0) _
-    (every-place (λ (table : WeightTable). AllByRecursion IsWide (map (λ (r : Weighted). r.value) table.rows)) g.tables no_table t (every-map KeepsTable _ (λ table kept. rows-wide table.rows kept.rows) g.tables tables) tt)
+    slice_index_or-all IsWide (map (λ (r : Weighted). r.value) (slice_index_or g.tables t no_table).rows) (pos 0) _
+    (slice_index_or-all (λ (table : WeightTable). AllByRecursion IsWide (map (λ (r : Weighted). r.value) table.rows)) g.tables no_table t (every-map KeepsTable _ (λ table kept. rows-wide table.rows kept.rows) g.tables tables) tt)
     (signed-wide (pos 0) (omega arith))
 
 -- ---- values
@@ -153,5 +148,5 @@ module _ (g : EventGraph) (parts : KeepsParts g) (spelled : IsSpellable g) (seed
   pub edges-good : (k : ℕ) → AllByRecursion (λ e. SchedulesOnly (IsGoodEntry g clk) g seed s clk e e.kind) (vertex_at g k).edges
   edges-good k =
       every-both (KeepsEdge g.variables (length g.tables) (parameters_of g)) (SpellableEdge (extent g)) _ edge-good (vertex_at g k).edges
-      (every-place (λ (v : EventVertex). AllByRecursion (KeepsEdge g.variables (length g.tables) (parameters_of g)) v.edges) g.vertices _ k (every-map (KeepsVertex g.variables (length g.tables) (parameters_of g)) _ (λ v kept. kept.edges) g.vertices parts.vertices) tt)
-      (every-place (λ (v : EventVertex). AllByRecursion (SpellableEdge (extent g)) v.edges) g.vertices _ k (every-map (SpellableVertex (extent g)) _ (λ v written. written.edges) g.vertices spelled.vertices) tt)
+      (slice_index_or-all (λ (v : EventVertex). AllByRecursion (KeepsEdge g.variables (length g.tables) (parameters_of g)) v.edges) g.vertices _ k (every-map (KeepsVertex g.variables (length g.tables) (parameters_of g)) _ (λ v kept. kept.edges) g.vertices parts.vertices) tt)
+      (slice_index_or-all (λ (v : EventVertex). AllByRecursion (SpellableEdge (extent g)) v.edges) g.vertices _ k (every-map (SpellableVertex (extent g)) _ (λ v written. written.edges) g.vertices spelled.vertices) tt)

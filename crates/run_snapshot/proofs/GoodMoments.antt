@@ -4,6 +4,7 @@ use Rattle.std.specs.Prelude.{IfSome}
 use Rattle.std.specs.List.{AllByRecursion}
 use Rattle.std.proofs.lemmas.List.{length-map, length-replicate}
 use lib.Pointwise.{pointwise_long}
+use Rattle.sig_base.proofs.Lists.{slice_index_or-all}
 use Rattle.model_core.specs.EventGraph.{EventGraph, Variable, EventVertex}
 use Rattle.model_core.specs.Run.State.{variable_at, within, in_ranges, in_range}
 use Rattle.model_core.specs.Run.Changes.{taken_from}
@@ -25,7 +26,7 @@ use Rattle.model_core.specs.Saved.Cells.{variables_watched}
 use Rattle.model_core.specs.Saved.SavedRun.{IsWide, IsGoodEntry}
 use Rattle.model_core.proofs.NotEmpty.{has_one-length}
 use Rattle.run_snapshot.proofs.CellLists.{each_in_range, watched-in_range}
-use Rattle.run_snapshot.proofs.GoodEntries.{every-place, ranges-wide, edges-good}
+use Rattle.run_snapshot.proofs.GoodEntries.{ranges-wide, edges-good}
 use Rattle.run_laws.proofs.GoingMoves.{move-by, reached-keeps}
 use Rattle.run_snapshot.proofs.WideValues.{WideRange, between-wide}
 use Rattle.run_snapshot.proofs.TakenWords.{occur-few}
@@ -53,7 +54,7 @@ later-good g clock later goes e good due = record {
 -- a vertex has few changes and few edges
 few-parts : (g : EventGraph) → KeepsParts g → (k : ℕ) → length (vertex_at g k).changes + length (vertex_at g k).edges ≤ 2000
 few-parts g parts k =
-    every-place (λ (v : EventVertex). length v.changes + length v.edges ≤ 2000) g.vertices _ k (every-map (KeepsVertex g.variables (length g.tables) (parameters_of g)) _ (λ v kept. omega (arith, kept.few_changes, kept.few_edges)) g.vertices parts.vertices) (omega arith)
+    slice_index_or-all (λ (v : EventVertex). length v.changes + length v.edges ≤ 2000) g.vertices _ k (every-map (KeepsVertex g.variables (length g.tables) (parameters_of g)) _ (λ v kept. omega (arith, kept.few_changes, kept.few_edges)) g.vertices parts.vertices) (omega arith)
 
 module _ (g : EventGraph) (parts : KeepsParts g) (spelled : IsSpellable g) (seed until : ℕ) (early : until ≤ 2 ^ 48) where
   left-sound : (m : Moment) (n : ℕ) (time : ℕ) → IsSound g n m → IfSome (noting_before_event g m time).noted (λ values. each_in_range (variables_watched g g.watch) values ≡ true)

@@ -5,6 +5,7 @@ use Rattle.std.proofs.lemmas.Int.{ints}
 use Rattle.std.proofs.lemmas.Bool.Decides.{nat_tests}
 use Rattle.std.proofs.Math.Nat.{mod-le}
 use Rattle.sig_base.specs.declared.fault.FaultKind.{FaultKind}
+use Rattle.sig_base.proofs.Tests.{true-int_le}
 use Rattle.model_core.specs.declared.model.Kind.{Kind}
 use Rattle.model_core.specs.declared.model.Kind.TheVariants as kinds
 use Rattle.model_core.specs.EventGraph.{EventGraph, Variable, Expression, Number, Truth, Clock, Scalar, Cell, Negative, Not, Binary, If, Operator, Add, Subtract, Multiply, Divide, Remainder, Least, Greatest}
@@ -16,7 +17,6 @@ use Rattle.model_core.specs.Static.Kinds.{result_kind, operand_kind}
 use Rattle.model_core.proofs.Results.{bind_ok}
 use Rattle.model_core.proofs.BothTrue.{and_first, and_second}
 use Rattle.run_laws.proofs.InRange.{cells_lie_in_range}
-use Rattle.bound_laws.proofs.Soundness.Ends.{le_of}
 use Rattle.model_core.specs.Saved.SavedRun.{IsWide}
 
 wide_as : {x y : ℤ} → x ≡ y → IsWide x → IsWide y
@@ -30,8 +30,8 @@ exact-wide : (x y : ℤ) → exact x ≡ Ok y → IsWide y
 exact-wide x y e = chosen (within (neg_ℤ (pos (2 ^ 63))) (pos (2 ^ 63 - 1)) x) refl _ e where
   chosen : (b : Bool) → within (neg_ℤ (pos (2 ^ 63))) (pos (2 ^ 63 - 1)) x ≡ b → (k : FaultKind) → (let r : OrFault ℤ = cond b (Ok x) (Err k) in r ≡ Ok y) → IsWide y
   chosen true inside k e = ok-wide x y e (record {
-    least = le_of _ _ (and_first (int_le (neg_ℤ (pos (2 ^ 63))) x) _ inside);
-    greatest = le_of _ _ (and_second (int_le (neg_ℤ (pos (2 ^ 63))) x) _ inside);
+    least = true-int_le _ _ (and_first (int_le (neg_ℤ (pos (2 ^ 63))) x) _ inside);
+    greatest = true-int_le _ _ (and_second (int_le (neg_ℤ (pos (2 ^ 63))) x) _ inside);
   })
   chosen false inside k e = cc
 
@@ -88,8 +88,8 @@ pub record WideRange (v : Variable) : Type 0 where
 
 pub between-wide : (v : Variable) (x : ℤ) → WideRange v → IsTrue (within v.lo v.hi x) → IsWide x
 between-wide v x w inside = record {
-  least = omega (arith, ints, w.lo.least, le_of v.lo x (and_first (int_le v.lo x) _ inside));
-  greatest = omega (arith, ints, w.hi.greatest, le_of x v.hi (and_second (int_le v.lo x) _ inside));
+  least = omega (arith, ints, w.lo.least, true-int_le v.lo x (and_first (int_le v.lo x) _ inside));
+  greatest = omega (arith, ints, w.hi.greatest, true-int_le x v.hi (and_second (int_le v.lo x) _ inside));
 }
 
 indexed-place : (g : EventGraph) (v : ℕ) (i : ℤ) (p : Place) → indexed g v i ≡ Ok p → (p.variable ≡ v) × (p.index < cell_count (variable_at g v))

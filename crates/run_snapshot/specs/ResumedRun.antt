@@ -11,7 +11,7 @@ pub record ResumedRun (m : Model) (s : SavedRun) (room : ℕ) (r : Running) (t :
   pub model : r.model ≡ m
   pub traced : t.model ≡ m
   pub seeded : r.seed ≡ s.seed
-  pub stands : moment_of r t ≡ saved_moment (graph_of m) s
+  pub same_moment : moment_of r t ≡ saved_moment (graph_of m) s
   pub numbered : r.numbered ≡ length s.pending
   pub turns : r.turns ≡ s.events
   pub goes_on : r.faulted ≡ None

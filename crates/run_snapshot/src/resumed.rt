@@ -61,7 +61,7 @@ where
         (IsWatchable (length (graph_of model.now).variables)
         (length (graph_of model.now).vertices)) (graph_of model.now).watch }
     requires good { IsGood (graph_of model.now) snapshot.now }
-    requires few { length snapshot.now.pending < 2 ^ 61 }
+    requires pending_fits { length snapshot.now.pending < 2 ^ 61 }
     requires empty { P.entries pending ≡ [] }
     requires fresh { P.numbered pending ≡ 0 }
     requires made_for { P.vertices pending ≡ length model.now.vertices }

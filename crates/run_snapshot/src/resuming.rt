@@ -17,7 +17,7 @@ use std::sync::ledger::{Blank, Ledger};
 /// The random streams of a run with this seed, after so many words of each.
 pub(crate) fn streams_after(seed: u64, taken: &[u64]) -> Streams
     requires streams { length taken.now ≡ 64 }
-    requires few { AllByRecursion (λ n. n ≤ 2 ^ 52) taken.now }
+    requires words_fit { AllByRecursion (λ n. n ≤ 2 ^ 52) taken.now }
     ensures { result ≡ record { seed = seed; taken = taken.now } }
 {
     let mut streams = Streams::begin(seed);
@@ -35,8 +35,8 @@ pub(crate) fn schedule_all<P: Pending, L: Ledger>(pending: &mut P, entries: &[En
     requires empty { P.entries pending.old ≡ [] }
     requires fresh { P.numbered pending.old ≡ 0 }
     requires spare { length entries.now ≤ P.spare pending.old }
-    requires few { length entries.now < 2 ^ 61 }
-    requires known { AllByRecursion (λ e. e.vertex < P.vertices pending.old) entries.now }
+    requires entries_fit { length entries.now < 2 ^ 61 }
+    requires vertices_exist { AllByRecursion (λ e. e.vertex < P.vertices pending.old) entries.now }
     ensures entries { P.entries pending.new ≡ entries.now }
     ensures room { P.spare pending.old ≤ P.spare pending.new + length entries.now }
     ensures numbered { P.numbered pending.new ≡ length entries.now }

@@ -7,9 +7,9 @@ use Rattle.model_core.specs.Rules.LeastRelations.{over_pair}
 use Rattle.model_core.proofs.Among.{Among, contained-among, among-front, among-back, among-either}
 use Rattle.model_core.proofs.PlacesChanged.{same_number, same_on_range, place-mapped}
 use Rattle.mark_laws.proofs.EntailedMarks.{entailed-below, Implied}
-use Rattle.mark_laws.specs.PlacePairs.{places_behind, pairs_from}
+use Rattle.mark_laws.specs.PlacePairs.{successors_of, pairs_from}
 use Rattle.var_slicing.specs.Inner.Linking.{no_lists, with_successor, lists_of_pairs}
-use Rattle.mark_laws.proofs.PairsBehind.{behind-pairs, pairs-behind}
+use Rattle.mark_laws.proofs.PairsOfSuccessors.{successors-pairs, pairs-successors}
 
 -- the second places of the pairs that have this one as their first
 abbrev pub seconds : ℕ → List (ℕ × ℕ) → List ℕ
@@ -57,7 +57,7 @@ module _ (pairs : List (ℕ × ℕ)) (n : ℕ) where
   abbrev lists : List (List ℕ)
   lists = lists_of_pairs pairs (no_lists n)
 
-  successors-seconds : (j : ℕ) → j < n → places_behind lists j ≡ seconds j pairs
+  successors-seconds : (j : ℕ) → j < n → successors_of lists j ≡ seconds j pairs
   successors-seconds j below =
       ap (λ (next : List (List ℕ)). slice_index_or next j []) (lists_of_pairs-lists pairs n) ∙ get_or-map-range_with_len (λ j. seconds j pairs) 0 n j j [] below (omega arith)
 
@@ -65,15 +65,15 @@ module _ (pairs : List (ℕ × ℕ)) (n : ℕ) where
   pairs-lists_of_pairs first = record {
     over = λ j k among below before.
         over_pair j k below before
-        (contained-among (pairs_from 0 lists) (j, k) (behind-pairs lists 0 j j k (omega arith)
+        (contained-among (pairs_from 0 lists) (j, k) (successors-pairs lists 0 j j k (omega arith)
         (subst (λ (ks : List ℕ). Among k ks) (sym (successors-seconds j (entailed-below n first (pairs_from 0 lists) before))) (pair-second pairs j k among))));
   }
 
   pub lists_of_pairs-pairs : (first : List ℕ) → Implied n first (pairs_from 0 lists) pairs
   lists_of_pairs-pairs first = record {
     over = λ j k among below before.
-        let (i, is, there) = pairs-behind lists 0 j k among in
+        let (i, is, there) = pairs-successors lists 0 j k among in
         let same : i ≡ j = omega (arith, is) in
         over_pair j k below before
-        (contained-among pairs (j, k) (second-pair pairs j k (subst (λ (ks : List ℕ). Among k ks) (successors-seconds j (entailed-below n first pairs before)) (subst (λ (m : ℕ). Among k (places_behind lists m)) same there))));
+        (contained-among pairs (j, k) (second-pair pairs j k (subst (λ (ks : List ℕ). Among k ks) (successors-seconds j (entailed-below n first pairs before)) (subst (λ (m : ℕ). Among k (successors_of lists m)) same there))));
   }

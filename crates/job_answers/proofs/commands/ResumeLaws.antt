@@ -41,7 +41,7 @@ resume_delivered sight m s o r t result p q allowed resumed delivers =
     subst (λ (x : Answer). DeliversSome sight (λ a. a ≡ x) (ResumedExceedsRoom (graph_of m) s o) result p q) (ap (λ x. refused_or x (answer_of_look (graph_of m) o.until o.events (history_from (graph_of m) s o.until o.events))) (sym allowed))
     (subst (λ (n : Model). DeliversHistory sight (graph_of n) o.until s.seed o.events here room result p q) resumed.model
     (subst (λ (seed : ℕ). DeliversHistory sight (graph_of r.model) o.until seed o.events here room result p q) resumed.seeded
-    (subst (λ (here : Moment). DeliversHistory sight (graph_of r.model) o.until r.seed o.events here room result p q) resumed.stands (delivers room resumed.roomy))))
+    (subst (λ (here : Moment). DeliversHistory sight (graph_of r.model) o.until r.seed o.events here room result p q) resumed.same_moment (delivers room resumed.roomy))))
 
 pub resume_laws : (options : ResumeOptions) → KeepsAnswerLaws (OfSaved (Resume options))
 resume_laws o = record {

@@ -4,7 +4,7 @@ use Rattle.std.specs.Option.{option_map_or}
 use Rattle.model_core.specs.Rules.MarkedPlaces.{is_marked}
 use Rattle.model_core.specs.Rules.LeastRelations.{Entailed}
 use Rattle.marked_walks.specs.declared.entailing.Finder.{Finder}
-use Rattle.mark_laws.specs.PlacePairs.{places_behind, pairs_from}
+use Rattle.mark_laws.specs.PlacePairs.{successors_of, pairs_from}
 
 pub record Found : Type 0 where
   pub marks : List Bool
@@ -31,7 +31,7 @@ find_nth f ks n = option_map_or (find_one f) (slice_get ks n) f
 
 -- the successors of a place are found
 abbrev pub IsFollowed : List (List ℕ) → List Bool → ℕ → Type 0
-IsFollowed next marks k = (j : ℕ) → Contains (places_behind next k) j → j < length next → is_marked marks j ≡ true
+IsFollowed next marks k = (j : ℕ) → Contains (successors_of next k) j → j < length next → is_marked marks j ≡ true
 
 -- what is marked is entailed, and the successors of a marked place that doesn't wait are marked
 pub record Going (first : List ℕ) (next : List (List ℕ)) (f : Found) : Type 0 where
