@@ -55,15 +55,40 @@ pub struct Seen {
     pub complaints: u64,
 }
 
-/// The status of the program over these devices.
-fn ended(
+/// What is seen of the program with these words over these two devices, and over an error output
+/// that takes a line at a write.
+fn over_devices(
     alloc: Global,
     words: &[String],
     input: &mut MemorySource,
     output: &mut MemorySink,
-    errors: &mut MemorySink,
-) -> Status {
-    sigma(alloc, words, input, output, errors)
+    failing: Failing,
+    wanted: Answer<'_>,
+) -> Result<Seen, NoMemory> {
+    let failing_calls = List::of_one(alloc, failing.error)?;
+    let mut errors = MemorySink::begin(alloc, 1_000, 1_000, failing_calls)?;
+    let status = sigma(alloc, words, input, output, &mut errors);
+    Ok(Seen {
+        is_wanted: status == wanted.status
+            && output.written() == wanted.output
+            && errors.written() == wanted.errors,
+        reads: input.calls(),
+        writes: output.calls(),
+        complaints: errors.calls(),
+    })
+}
+
+/// The same over this input, and over an output that takes one byte at a write.
+fn over_input(
+    alloc: Global,
+    words: &[String],
+    input: &mut MemorySource,
+    failing: Failing,
+    wanted: Answer<'_>,
+) -> Result<Seen, NoMemory> {
+    let failing_calls = List::of_one(alloc, failing.write)?;
+    let mut output = MemorySink::begin(alloc, 100_000, 1, failing_calls)?;
+    over_devices(alloc, words, input, &mut output, failing, wanted)
 }
 
 /// What is seen of the program with these words and this text, which is handed out in pieces of 7
@@ -75,18 +100,9 @@ pub fn run(
     failing: Failing,
     wanted: Answer<'_>,
 ) -> Result<Seen, NoMemory> {
-    let mut input = MemorySource::new(Text::from_vec(text), 7, List::of_one(alloc, failing.read)?);
-    let mut output = MemorySink::begin(alloc, 100_000, 1, List::of_one(alloc, failing.write)?)?;
-    let mut errors = MemorySink::begin(alloc, 1_000, 1_000, List::of_one(alloc, failing.error)?)?;
-    let status = ended(alloc, words, &mut input, &mut output, &mut errors);
-    Ok(Seen {
-        is_wanted: status == wanted.status
-            && output.written() == wanted.output
-            && errors.written() == wanted.errors,
-        reads: input.calls(),
-        writes: output.calls(),
-        complaints: errors.calls(),
-    })
+    let failing_calls = List::of_one(alloc, failing.read)?;
+    let mut input = MemorySource::new(Text::from_vec(text), 7, failing_calls);
+    over_input(alloc, words, &mut input, failing, wanted)
 }
 
 /// So many bytes of these.
