@@ -54,7 +54,7 @@ module _ {K : Type 0} (sight : K → Outlet) (g : EventGraph) (until events : �
   all_streamed : (outcome : Outcome) → WritesAll g until events seen outcome (sight o) (sight p)
       → StreamsBytes sight (end_of seen.standing) (history_text g until events seen) Short (ending outcome) o p
   all_streamed outcome h =
-      subst (λ (r : Result End Failure). StreamsBytes sight (end_of seen.standing) (history_text g until events seen) Short r o p) (sym (ap ending h.stands ∙ ending_of_outcome seen.standing)) (refl, h.grows, h.unsettled, h.steady)
+      subst (λ (r : Result End Failure). StreamsBytes sight (end_of seen.standing) (history_text g until events seen) Short r o p) (sym (ap ending h.answers ∙ ending_of_outcome seen.standing)) (refl, h.grows, h.unsettled, h.steady)
 
   history_streamed : (outcome : Outcome) → Writes g until events seen outcome (sight o) (sight p)
       → (outcome ≡ outcomes.NoMemory → Short) → StreamsBytes sight (end_of seen.standing) (history_text g until events seen) Short (ending outcome) o p
@@ -74,13 +74,13 @@ module _ {K : Type 0} (sight : K → Outlet) (g : EventGraph) (until events : �
 exceeds : (until events room : ℕ) (r later : Running) (t after : Tracing) → room ≤ r.spare + length r.now.pending → StepsLead until events r t outcomes.NoMemory later after → ExceedsRoomFrom (graph_of r.model) until r.seed events (moment_of r t) room
 exceeds until events room r later t after roomy h = record {
   steps = h.steps;
-  within = h.stands.1;
+  within = h.after_steps.1;
   here = h.here;
   lead = h.lead;
-  next = h.stands.2.next;
-  comes = h.stands.2.comes;
-  due = h.stands.2.due;
-  exceeds = omega (arith, h.stands.2.lacks, roomy);
+  next = h.after_steps.2.next;
+  comes = h.after_steps.2.comes;
+  due = h.after_steps.2.due;
+  exceeds = omega (arith, h.after_steps.2.lacks, roomy);
 }
 
 -- the text of the history from this moment on is written as it comes

@@ -63,9 +63,9 @@ pub fn begin<'m>(
 {
     validity_is_by_parts();
     kept_models_can_be_run();
-    check_starts(model, starts.as_slice())?;
+    let starts = check_starts(model, starts.as_slice())?;
     let pending = HeapPending::begin(alloc, model.vertices.len())?;
-    Run::begin(alloc, model, pending, seed, starts, room)
+    Ok(Run::begin_with(alloc, &starts, pending, seed, room)?)
 }
 
 /// The refusal of starting values that aren't allowed.

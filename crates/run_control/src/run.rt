@@ -10,7 +10,7 @@ use crate::begin_error::BeginError;
 use crate::occurrence::occur;
 use crate::parts::Parts;
 use crate::plans::Plans;
-use crate::starts::{carried, check_starts, schedule_first};
+use crate::starts::{AllowedStarts, check_starts, schedule_first};
 use crate::turn::Turn;
 use event_list::{Entry, First, Pending};
 use model_core::{Model as Graph, Vertex};
@@ -84,8 +84,7 @@ impl<'m, P: Pending> Run<'m, P> {
     ghost use Rattle.run_control.specs.Beginning.{BegunRun, RefusesStart};
     ghost use Rattle.run_control.specs.Turns.{Turns, IsNextTurn, StepKeeps, HasRoom, FitsRoom, IsDue};
 
-    /// A run of a model as it begins: at clock 0 with the initial values, no words taken, and the first vertex's event,
-    /// which carries the starting values. `pending` is given empty; room is made in it for `room` events, and for one at least.
+    /// A run of a model as it begins, or why the starting values aren't allowed. See `begin_with`.
     pub fn begin(
         alloc: Global,
         model: &'m Graph,
@@ -103,7 +102,28 @@ impl<'m, P: Pending> Run<'m, P> {
         ensures ok { IfOk result (BegunRun model.now seed starts.now room) }
         ensures err { IfErr result (RefusesStart (graph_of model.now) starts.now) }
     {
-        check_starts(model, starts.as_slice())?;
+        let starts = check_starts(model, starts.as_slice())?;
+        Ok(Run::begin_with(alloc, &starts, pending, seed, room)?)
+    }
+
+    /// A run of a model as it begins: at clock 0 with the initial values, no words taken, and the first vertex's event,
+    /// which carries the starting values. `pending` is given empty; room is made in it for `room` events, and for one at least.
+    pub fn begin_with(
+        alloc: Global,
+        starts: &AllowedStarts<'m, '_>,
+        pending: P,
+        seed: u64,
+        room: usize,
+    ) -> Result<Run<'m, P>, NoMemory>
+    where
+        P: Drop,
+        requires possible { PossibleModel (graph_of starts.now.model) }
+        requires empty { P.entries pending ≡ [] }
+        requires fresh { P.numbered pending ≡ 0 }
+        requires made_for { P.vertices pending ≡ length starts.now.model.vertices }
+        ensures { IfOk result (BegunRun starts.now.model seed starts.now.values room) }
+    {
+        let model = starts.model();
         let state = State::begin(alloc, model)?;
         let mut pending = pending;
         pending.reserve(room.max(1))?;
@@ -111,7 +131,7 @@ impl<'m, P: Pending> Run<'m, P> {
             time: 0,
             priority: 5,
             vertex: 0,
-            values: carried(starts.as_slice()),
+            values: starts.carried(),
         };
         schedule_first::<P, Brand>(&mut pending, &first, Blank::new(1));
         runs_stay_in_range();
@@ -145,7 +165,7 @@ impl<'m, P: Pending> Run<'m, P> {
         requires words { FewWords streams.taken turns }
         requires countable { FewScheduled (P.numbered pending) turns }
         requires made_for { P.vertices pending ≡ length model.now.vertices }
-        requires known { AreOfVertices (length model.now.vertices) (P.entries pending) }
+        requires of_vertices { AreOfVertices (length model.now.vertices) (P.entries pending) }
         ensures { result ≡ record {
           model = model.now;
           seed = streams.seed;
@@ -182,7 +202,8 @@ impl<'m, P: Pending> Run<'m, P> {
         ensures numbered { P.numbered result.pending ≡ self.entry.numbered }
         ensures countable { FewScheduled (P.numbered result.pending) result.turns }
         ensures made_for { P.vertices result.pending ≡ length self.entry.model.vertices }
-        ensures known { AreOfVertices (length self.entry.model.vertices) (P.entries result.pending) }
+        ensures of_vertices { AreOfVertices (length self.entry.model.vertices)
+            (P.entries result.pending) }
         ensures turns { result.turns ≡ self.entry.turns }
     {
         let plans = self.plans;
@@ -237,7 +258,8 @@ impl<'m, P: Pending> Run<'m, P> {
         ensures numbered { P.numbered result.now ≡ self.now.numbered }
         ensures countable { FewScheduled (P.numbered result.now) self.now.turns }
         ensures made_for { P.vertices result.now ≡ length self.now.model.vertices }
-        ensures known { AreOfVertices (length self.now.model.vertices) (P.entries result.now) }
+        ensures of_vertices { AreOfVertices (length self.now.model.vertices)
+            (P.entries result.now) }
     {
         let plans = &self.plans;
         &plans.pending

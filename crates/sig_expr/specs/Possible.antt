@@ -84,7 +84,7 @@ PossibleChoice g (ByTable t) = PossibleTable g t
 
 -- a `set` has as many targets as right sides, within the limit
 pub record PossibleSet (g : EventGraph) (targets : List Location) (rights : List Expression) : Type 0 where
-  pub few : length rights ≤ TARGETS_MAX
+  pub few_rights : length rights ≤ TARGETS_MAX
   pub matched : length targets ≡ length rights
   pub locations : All (PossibleLocation g) targets
   pub expressions : All (PossibleExpression g) rights

@@ -17,6 +17,6 @@ pub use item::{Item, Span};
 pub use report::{header_csv, run_csv, totals_csv};
 pub use run_tally::{RunEnd, RunTally};
 pub use tally_error::TallyError;
-pub use tallying::tally_one;
+pub use tallying::{tally_one, tally_run};
 pub use total_laws::{areas_never_overflow, totals_are_added_up};
 pub use totals::Totals;

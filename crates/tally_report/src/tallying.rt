@@ -16,7 +16,7 @@ use crate::tally_error::TallyError;
 use crate::tally_taker::TallyTaker;
 use event_heap::HeapPending;
 use model_core::Model;
-use run_control::{ROOM, Run, check_starts};
+use run_control::{AllowedStarts, ROOM, Run, check_starts};
 use sig_base::{List, NoMemory};
 use std::alloc::Global;
 use watch_trace::{Outcome, Tracer, observe};
@@ -78,8 +78,31 @@ fn follow<'m>(
     }
 }
 
-/// The tally of the run of a model with a seed, up to a stop time in ticks and for at most so many events, that begins
-/// with these starting values, one for each parameter of the first vertex. An error says why the run can't begin.
+/// The tally of a run with a seed that begins with these starting values of a model, up to a stop time in ticks and for at most
+/// so many events.
+pub fn tally_run(
+    alloc: Global,
+    starts: &AllowedStarts<'_, '_>,
+    seed: u64,
+    until: u64,
+    events: u64,
+) -> Result<RunTally, NoMemory>
+    requires possible { PossibleModel (graph_of starts.now.model) }
+    requires soon { until ≤ STOP_MAX }
+    requires budget { events ≤ EVENTS_MAX }
+    ensures tally { IfOk result
+        (λ tally. tally
+        ≡ tally_of (graph_of starts.now.model) until
+        (look (graph_of starts.now.model) seed starts.now.values until events)) }
+    ensures small { IfOk result (λ tally. All (IsOfRuns 1) tally.items) }
+{
+    let model = starts.model();
+    let pending = HeapPending::begin(alloc, model.vertices.len())?;
+    let mut run = Run::begin_with(alloc, starts, pending, seed, ROOM)?;
+    follow(alloc, model, &mut run, until, events)
+}
+
+/// The same for any starting values. An error says why the run can't begin.
 pub fn tally_one(
     alloc: Global,
     model: &Model,
@@ -99,8 +122,6 @@ pub fn tally_one(
     ensures small { IfOk result (λ tally. All (IsOfRuns 1) tally.items) }
     ensures err { IfErr result (RefusesTally (graph_of model.now) starts.now) }
 {
-    check_starts(model, starts.as_slice())?;
-    let pending = HeapPending::begin(alloc, model.vertices.len())?;
-    let mut run = Run::begin(alloc, model, pending, seed, starts, ROOM)?;
-    Ok(follow(alloc, model, &mut run, until, events)?)
+    let starts = check_starts(model, starts.as_slice())?;
+    Ok(tally_run(alloc, &starts, seed, until, events)?)
 }

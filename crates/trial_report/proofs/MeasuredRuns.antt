@@ -29,28 +29,28 @@ module _ (until events : ℕ) (r later : Running) (t after : Tracing) (from : r.
 
   made : (outcome : Outcome) → (outcome ≡ outcomes.WriteFault → ⊥) → (outcome ≡ outcomes.NoMemory → ⊥) → StepsLead until events r t outcome later after → later.turns ≡ Steps events (moment_of r t)
   made (outcomes.Ended time) well roomy p =
-      let counts = p.stands.0.counts in
+      let counts = p.after_steps.0.counts in
       let few : p.steps ≤ events = omega (arith, counts, from, keeps.counted) in
-      let rests = none_at_rest (next_move (graph_of r.model) r.seed until) (events - p.steps) p.here.moment p.stands.1.notes _ p.stands.1.rests in
+      let rests = none_at_rest (next_move (graph_of r.model) r.seed until) (events - p.steps) p.here.moment p.after_steps.1.notes _ p.after_steps.1.rests in
       let all = all-steps p.steps (events - p.steps) p.here.moment (from_there (next_move (graph_of r.model) r.seed until) p.steps events (moment_of r t) p.here p.lead few) rests in
       omega (arith, counts, from, all)
   made outcomes.Stopped well roomy p =
-      let counts = p.stands.0.counts in
+      let counts = p.after_steps.0.counts in
       let few : p.steps ≤ events = omega (arith, counts, from, keeps.counted) in
-      let rests = none_at_rest (next_move (graph_of r.model) r.seed until) (events - p.steps) p.here.moment p.stands.1.notes _ p.stands.1.rests in
+      let rests = none_at_rest (next_move (graph_of r.model) r.seed until) (events - p.steps) p.here.moment p.after_steps.1.notes _ p.after_steps.1.rests in
       let all = all-steps p.steps (events - p.steps) p.here.moment (from_there (next_move (graph_of r.model) r.seed until) p.steps events (moment_of r t) p.here p.lead few) rests in
       omega (arith, counts, from, all)
   made (outcomes.Faulted time kind) well roomy p =
-      let counts = p.stands.0.counts in
+      let counts = p.after_steps.0.counts in
       let few : p.steps ≤ events = omega (arith, counts, from, keeps.counted) in
       let left : 0 < events - p.steps = omega (arith, counts, from, keeps.counted) in
-      let fails = one_at_fault (next_move (graph_of r.model) r.seed until) (events - p.steps) p.here.moment p.stands.0.notes _ left p.stands.0.fails in
+      let fails = one_at_fault (next_move (graph_of r.model) r.seed until) (events - p.steps) p.here.moment p.after_steps.0.notes _ left p.after_steps.0.fails in
       let all = from_there (next_move (graph_of r.model) r.seed until) p.steps events (moment_of r t) p.here p.lead few in
       omega (arith, counts, from, all, fails)
   made outcomes.Budget well roomy p =
-      let counts = p.stands.0.counts in
+      let counts = p.after_steps.0.counts in
       let few : p.steps ≤ events = omega (arith, counts, from, keeps.counted) in
-      let spent : events - p.steps ≡ 0 = let is = p.stands.1 in omega (arith, is) in
+      let spent : events - p.steps ≡ 0 = let is = p.after_steps.1 in omega (arith, is) in
       let all = all-steps p.steps (events - p.steps) p.here.moment (from_there (next_move (graph_of r.model) r.seed until) p.steps events (moment_of r t) p.here p.lead few) (ap (λ n. Steps n p.here.moment) spent) in
       omega (arith, counts, from, all)
   made outcomes.WriteFault well roomy p = absurd (well refl)

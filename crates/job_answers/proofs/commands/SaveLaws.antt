@@ -56,10 +56,10 @@ module _ (m : Model) (until seed events room : ℕ) (starts : List ℤ) (r : Run
       → s ≡ saved seed later.turns (moment_of later after) → SavedOrFinished (graph_of m) until seed events starts (Some s)
   is_saved later after rest s completes h is =
       let g = graph_of r.model in
-      let arrives = h.stands.0 in
-      let all : h.steps ≡ events = h.stands.1 in
+      let arrives = h.after_steps.0 in
+      let all : h.steps ≡ events = h.after_steps.1 in
       let moment : Configuration → Option (List (List ℤ)) → Moment = λ c n. record { now = c; noted = n } in
-      let there : moment_of later after ≡ h.here.moment = ap₂ moment arrives.now h.stands.2 in
+      let there : moment_of later after ≡ h.here.moment = ap₂ moment arrives.now h.after_steps.2 in
       let turns : later.turns ≡ events = omega (arith, arrives.counts, begun.turns, all) in
       let here : moment_of r t ≡ start g starts = at_start g starts r t (begun.now ∙ ap (λ n. (start (graph_of n) starts).now) (sym begun.model)) noted in
       let reach : Model → ℕ → ℕ → Option (Reached Moment) = λ n k steps. reached_from (graph_of n) k until steps (start (graph_of n) starts) in

@@ -17,10 +17,10 @@ use answer_delivery::{DeliveryOutcome, End, Failure, close, write_all};
 use command_words::ReplicateOptions;
 use model_core::Model;
 use round_trip::validity_is_by_parts;
-use run_control::{check_starts, kept_models_can_be_run};
-use sig_base::Sink;
+use run_control::{AllowedStarts, check_starts, kept_models_can_be_run};
+use sig_base::{NoMemory, Sink};
 use std::alloc::Global;
-use tally_report::{RunTally, TallyError, Totals, header_csv, run_csv, tally_one, totals_csv};
+use tally_report::{RunTally, Totals, header_csv, run_csv, tally_run, totals_csv};
 
 /// The seed of the run of a number, from 1.
 fn seed_of_run(seed: u64, number: u64) -> u64
@@ -33,27 +33,27 @@ fn seed_of_run(seed: u64, number: u64) -> u64
 /// The tally of the run of a number, from 1.
 fn tally_numbered(
     alloc: Global,
-    model: &Model,
+    starts: &AllowedStarts<'_, '_>,
     options: &ReplicateOptions,
     number: u64,
-) -> Result<RunTally, TallyError>
-    requires valid { IsValid (graph_of model.now) }
+) -> Result<RunTally, NoMemory>
+    requires valid { IsValid (graph_of starts.now.model) }
+    requires given { starts.now.values ≡ options.now.starts }
     requires soon { options.now.until ≤ STOP_MAX }
     requires budget { options.now.events ≤ EVENTS_MAX }
     requires first { 0 < number }
     ensures of_run { IfOk result
-        (λ tally. tally ≡ tally_numbered (graph_of model.now) options.now number) }
+        (λ tally. tally ≡ tally_numbered (graph_of starts.now.model) options.now number) }
     ensures small { IfOk result (λ tally. All (IsOfRuns 1) tally.items) }
 {
     validity_is_by_parts();
     kept_models_can_be_run();
-    tally_one(
+    tally_run(
         alloc,
-        model,
+        starts,
         seed_of_run(options.seed, number),
         options.until,
         options.events,
-        &options.starts,
     )
 }
 
@@ -83,11 +83,13 @@ fn write_run_rows<K: Sink>(
 fn write_all_runs<K: Sink>(
     alloc: Global,
     model: &Model,
+    starts: &AllowedStarts<'_, '_>,
     options: &ReplicateOptions,
     totals: Totals,
     output: &mut K,
 ) -> Result<(), Failure>
     requires valid { IsValid (graph_of model.now) }
+    requires given { starts.now ≡ record { model = model.now; values = options.now.starts } }
     requires soon { options.now.until ≤ STOP_MAX }
     requires budget { options.now.events ≤ EVENTS_MAX }
     requires within_maximum { options.now.runs ≤ RUNS_MAX }
@@ -98,11 +100,7 @@ fn write_all_runs<K: Sink>(
 {
     let mut totals = totals;
     for number in 1..options.runs + 1 {
-        let tally = match tally_numbered(alloc, model, options, number) {
-            Ok(tally) => tally,
-            // The starting values were taken, so that it is memory that lacks.
-            Err(_) => return Err(Failure::NoMemory),
-        };
+        let tally = tally_numbered(alloc, starts, options, number)?;
         let seed = seed_of_run(options.seed, number);
         write_run_rows(alloc, model, number, seed, &tally, &mut totals, output)?;
     }
@@ -113,10 +111,12 @@ fn write_all_runs<K: Sink>(
 fn write_report<K: Sink>(
     alloc: Global,
     model: &Model,
+    starts: &AllowedStarts<'_, '_>,
     options: &ReplicateOptions,
     output: &mut K,
 ) -> Result<(), Failure>
     requires valid { IsValid (graph_of model.now) }
+    requires given { starts.now ≡ record { model = model.now; values = options.now.starts } }
     requires soon { options.now.until ≤ STOP_MAX }
     requires budget { options.now.events ≤ EVENTS_MAX }
     requires within_maximum { options.now.runs ≤ RUNS_MAX }
@@ -125,7 +125,7 @@ fn write_report<K: Sink>(
 {
     let totals = Totals::begin(alloc, model)?;
     write_all(output, header_csv(alloc)?.as_slice())?;
-    write_all_runs(alloc, model, options, totals, output)
+    write_all_runs(alloc, model, starts, options, totals, output)
 }
 
 /// Writes the report of the runs, each run's rows as it is done.
@@ -146,8 +146,8 @@ pub fn replicate<K: Sink>(
     validity_is_by_parts();
     kept_models_can_be_run();
     match check_starts(model, options.starts.as_slice()) {
-        Ok(()) => {
-            write_report(alloc, model, options, output)?;
+        Ok(starts) => {
+            write_report(alloc, model, &starts, options, output)?;
             close(output, End::Done)
         }
         Err(error) => refuse_start(alloc, error),

@@ -15,7 +15,7 @@ from_parts-run-requires-clause-inside g c =
     let good = subst (λ (s : SavedRun). IsGood (graph_of c.args.model.now) s) (sym c.snapshot.view_is) c.requires.good in
     subst (λ (s : State). IsTrue (in_range (graph_of c.args.model.now) s)) (sym c.in_ok-state.ensures) (rw c.as_slice-2.ensures (state-in_range (graph_of c.args.model.now) c.snapshot.inside.values good.values))
 
-pub from_parts-run-requires-clause-known : goal.from_parts-run-requires-clause-known
-from_parts-run-requires-clause-known g c =
+pub from_parts-run-requires-clause-of_vertices : goal.from_parts-run-requires-clause-of_vertices
+from_parts-run-requires-clause-of_vertices g c =
     let good = subst (λ (s : SavedRun). IsGood (graph_of c.args.model.now) s) (sym c.snapshot.view_is) c.requires.good in
     entries-known c.args.model.now c.snapshot.inside.clock _ c.snapshot.inside.pending (c.schedule_all.ensures.entries ∙ c.as_slice.ensures) good.pending

@@ -11,4 +11,4 @@ returns c =
     subst (λ (n : ℕ). IsMeasureOf (graph_of c.args.model.now) c.args.run.now.seed c.args.until c.args.events (record { outcome = followed.result; events = n; notes = followed.new.taker.notes })) (sym c.turns.ensures)
     (run_measured c.args.model.now 4096 c.args.until c.args.events c.args.run.now followed.new.run c.in_ok-tracer.tracer followed.new.tracer followed.result followed.new.taker.notes shows.notes shows.rest
     c.requires.begun (ap (λ t. t.noted) c.in_ok-tracer.ensures) c.requires.budget c.in_default.not-WriteFault c.in_default.not-NoMemory
-    shows.splits shows.completes shows.taken followed.ensures.stands followed.ensures.keeps)
+    shows.splits shows.completes shows.taken followed.ensures.leads followed.ensures.keeps)
