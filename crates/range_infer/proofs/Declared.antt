@@ -10,7 +10,7 @@ use Rattle.model_core.specs.declared.var_range.VarRange.{VarRange}
 use Rattle.model_core.specs.Ranges.OtherRanges.{declared_range, with_range, with_ranges, model_with_ranges, range_at}
 use Rattle.model_core.specs.Ranges.Narrowed.{with_ranges_if_short}
 use Rattle.model_core.specs.Ranges.Inductive.{Fitting, Inductive}
-use Rattle.range_infer.specs.ToldOfRanges.{FailsFirst, MayNarrow, MayNotNarrow, too_long}
+use Rattle.range_infer.specs.RangeVerdicts.{FailsFirst, MayNarrow, MayNotNarrow, too_long}
 use Rattle.sig_base.specs.declared.limits.TheConstants.{TEXT_MAX}
 use Rattle.model_core.specs.Text.Canonical.{canonical}
 use Rattle.range_infer.proofs.ModelWithRanges.{as_many_variables}
@@ -55,8 +55,8 @@ as_many_again vars new rs old are is =
     ap length are ∙ (length-map (map variable_of vars) declared_range ∙ (sym (as_many_variables (map variable_of vars) rs) ∙ (sym (ap length is) ∙ length-map new variable_of)))
 
 -- the test of the length of the text, for ranges that are seen under another name
-module _ (g h : EventGraph) (ranges seen : List VarRange) (fitting : Fitting g ranges) (inductive : Inductive g ranges) (same : seen ≡ ranges) (told : Bool) (is : told ≡ nat_le (length (canonical (model_with_ranges g seen))) TEXT_MAX) where
-  short : told ≡ nat_le (length (canonical (model_with_ranges g ranges))) TEXT_MAX
+module _ (g h : EventGraph) (ranges seen : List VarRange) (fitting : Fitting g ranges) (inductive : Inductive g ranges) (same : seen ≡ ranges) (within : Bool) (is : within ≡ nat_le (length (canonical (model_with_ranges g seen))) TEXT_MAX) where
+  short : within ≡ nat_le (length (canonical (model_with_ranges g ranges))) TEXT_MAX
   short = is ∙ ap (λ (rs : List VarRange). nat_le (length (canonical (model_with_ranges g rs))) TEXT_MAX) same
 
   few_of : (n : ℕ) → nat_le n TEXT_MAX ≡ true → n ≤ TEXT_MAX
@@ -65,14 +65,14 @@ module _ (g h : EventGraph) (ranges seen : List VarRange) (fitting : Fitting g r
   many_of : (n : ℕ) → nat_le n TEXT_MAX ≡ false → TEXT_MAX < n
   many_of n e = grind (arith, nat_tests)
 
-  pub may_narrow : h ≡ with_ranges_if_short g seen → told ≡ true → MayNarrow g ranges × (h ≡ model_with_ranges g ranges)
+  pub may_narrow : h ≡ with_ranges_if_short g seen → within ≡ true → MayNarrow g ranges × (h ≡ model_with_ranges g ranges)
   may_narrow made so =
       let test = sym short ∙ so in (
         record { fitting = fitting; inductive = inductive; short = few_of (length (canonical (model_with_ranges g ranges))) test },
         made ∙ (ap (with_ranges_if_short g) same ∙ ap (λ (b : Bool). cond b (model_with_ranges g ranges) g) test),
       )
 
-  pub no_room : told ≡ false → MayNotNarrow g ranges 3
+  pub no_room : within ≡ false → MayNotNarrow g ranges 3
   no_room so = too_long fitting inductive (many_of (length (canonical (model_with_ranges g ranges))) (sym short ∙ so))
 
 -- whether a text is short, by its length up to a limit that is greater

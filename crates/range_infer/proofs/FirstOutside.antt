@@ -14,9 +14,9 @@ use Rattle.model_core.specs.declared.var_range.VarRange.{VarRange}
 use Rattle.model_core.specs.Ranges.OtherRanges.{LiesIn, declared_range, no_range, range_at}
 use Rattle.model_core.specs.Ranges.Incoming.{incoming, kept_range}
 use Rattle.model_core.specs.Ranges.Inductive.{Encloses, Fitting, HoldsIncoming, Suffices, Inductive}
-use Rattle.range_infer.specs.ToldOfRanges.{FailsFirst}
+use Rattle.range_infer.specs.RangeVerdicts.{FailsFirst}
 use Rattle.range_infer.specs.Inner.RangeTests.{encloses_kept, first_after}
-use Rattle.range_infer.proofs.FittingTests.{holds_told, told_holds}
+use Rattle.range_infer.proofs.FittingTests.{encloses_kept-holds, holds-encloses_kept}
 use Rattle.range_infer.proofs.NarrowModels.{fits_everywhere}
 use Rattle.range_infer.proofs.OneRound.{kept_range-inside}
 
@@ -73,7 +73,7 @@ module _ (g : EventGraph) (ranges : List VarRange) (fitting : Fitting g ranges) 
   suffices : (w : ℕ) → w < out → Suffices g ranges w
   suffices w less = record {
     begins = begins w (omega (arith, less, f.few));
-    takes = every-map (λ (i : Incoming). i.variable < out → test g ranges i ≡ true) (λ (i : Incoming). i.variable ≡ w → HoldsIncoming g ranges i) (λ i told same. holds_told (range_at ranges i.variable) (kept_range (variable_at g i.variable) i.bounds) (told (omega (arith, same, less)))) (incoming g ranges) f.before;
+    takes = every-map (λ (i : Incoming). i.variable < out → test g ranges i ≡ true) (λ (i : Incoming). i.variable ≡ w → HoldsIncoming g ranges i) (λ i encloses same. encloses_kept-holds (range_at ranges i.variable) (kept_range (variable_at g i.variable) i.bounds) (encloses (omega (arith, same, less)))) (incoming g ranges) f.before;
   }
 
   fails_at : out < length g.variables → Suffices g ranges out → ⊥
@@ -82,7 +82,7 @@ module _ (g : EventGraph) (ranges : List VarRange) (fitting : Fitting g ranges) 
     by (inl same) = wrong (subst (λ (k : ℕ). k < length g.variables) same small) (subst (λ (k : ℕ). LiesIn (range_at ranges k) (variable_at g k).initial) same s.begins)
     by (inr o) =
         let held = of-among (λ (i : Incoming). i.variable ≡ out → HoldsIncoming g ranges i) (incoming g ranges) o.taken s.takes o.among o.variable in
-        let told = told_holds (range_at ranges o.taken.variable) (kept_range (variable_at g o.taken.variable) o.taken.bounds) held in
+        let encloses = holds-encloses_kept (range_at ranges o.taken.variable) (kept_range (variable_at g o.taken.variable) o.taken.bounds) held in
         let no = o.fails in cc
 
   pub first_fails : out < length g.variables → FailsFirst g ranges out
@@ -96,11 +96,11 @@ module _ (g : EventGraph) (ranges : List VarRange) (fitting : Fitting g ranges) 
       subst (λ (r : VarRange). IfSome (kept_range (variable_at g i.variable) i.bounds) (Encloses r)) (sym as_declared) (kept_range-inside (variable_at g i.variable) i.bounds (omega (arith, ints, fit.ordered, fit.inside.low, fit.inside.high)))
 
   holds_each : length g.variables ≤ out → (i : Incoming) → (i.variable < out → test g ranges i ≡ true) → HoldsIncoming g ranges i
-  holds_each all i told = by (nat_lt i.variable (length g.variables)) refl where
+  holds_each all i encloses = by (nat_lt i.variable (length g.variables)) refl where
     by : (b : Bool) → nat_lt i.variable (length g.variables) ≡ b → HoldsIncoming g ranges i
     by true e =
         let less : i.variable < length g.variables = grind (arith, nat_tests) in
-        holds_told (range_at ranges i.variable) (kept_range (variable_at g i.variable) i.bounds) (told (omega (arith, less, all)))
+        encloses_kept-holds (range_at ranges i.variable) (kept_range (variable_at g i.variable) i.bounds) (encloses (omega (arith, less, all)))
     by false e = past_holds i (grind (arith, nat_tests))
 
   pub none_fails : length g.variables ≤ out → Fitting g ranges × Inductive g ranges
@@ -124,10 +124,10 @@ module _ (g : EventGraph) (ranges : List VarRange) (fitting : Fitting g ranges) 
   wrong_too : start < length g.variables → LiesIn (range_at ranges start) (variable_at g start).initial → ⊥
   wrong_too small = wrong (omega (arith, small, count))
 
-  pub told_first : result < n → FailsFirst g ranges result
-  told_first small =
+  pub result_fails : result < n → FailsFirst g ranges result
+  result_fails small =
       subst (FailsFirst g ranges) (sym is_first)
       (first_fails g ranges fitting start few_too begins wrong_too (subst (λ (k : ℕ). k < length g.variables) is_first (omega (arith, small, count))))
 
-  pub told_none : n ≤ result → Fitting g ranges × Inductive g ranges
-  told_none all_there = none_fails g ranges fitting start few_too begins wrong_too (subst (λ (k : ℕ). length g.variables ≤ k) is_first (omega (arith, all_there, count)))
+  pub all_suffice : n ≤ result → Fitting g ranges × Inductive g ranges
+  all_suffice all_there = none_fails g ranges fitting start few_too begins wrong_too (subst (λ (k : ℕ). length g.variables ≤ k) is_first (omega (arith, all_there, count)))

@@ -3,7 +3,7 @@ use Rattle.std.proofs.Common.{◌≡◌, ℤ, pos, ◌+ℤ◌, ◌-ℤ◌, ◌�
 use Rattle.std.specs.Int.{int_min, int_max}
 use Rattle.std.specs.Ordering.{int_eq}
 use Rattle.std.proofs.lemmas.Int.{ints, clamps}
-use Rattle.sig_base.proofs.Tests.{int_le-true}
+use Rattle.sig_base.proofs.Tests.{int_eq-true, int_le-true}
 use Rattle.model_core.specs.EventGraph.{Operator, Equal, NotEqual, Below, AtMost, Above, AtLeast}
 use Rattle.model_core.specs.Run.Value.{number_of}
 use Rattle.model_core.specs.Rules.Exclusive.{compares, is_comparison}
@@ -12,7 +12,7 @@ use Rattle.model_core.specs.declared.var_range.VarRange.{VarRange}
 use Rattle.model_core.specs.Ranges.OtherRanges.{LiesIn}
 use Rattle.model_core.specs.Ranges.Refined.{numbers_left}
 use Rattle.model_core.specs.Ranges.Inductive.{Encloses}
-use Rattle.range_infer.proofs.NumbersLeft.{of_eq, up_by, down_by, by_test}
+use Rattle.range_infer.proofs.NumbersLeft.{up_by, down_by, by_test}
 
 pub all_left : (op : Operator) (n x : ℤ) (r : VarRange) → LiesIn r x → compares op x n ≡ true → LiesIn (numbers_left op n r) x
 all_left Equal n x r i e = by_test Equal true n x r i (ap (λ (b : Bool). Ok (number_of b)) e)
@@ -60,8 +60,8 @@ ends_hold AtLeast n r is some = record {
   high = (record { low = omega (arith, ints, clamps, some); high = omega (arith, ints) }, int_le-true n r.hi (omega (arith, ints, clamps, some)));
 }
 ends_hold Equal n r is some = record {
-  low = (record { low = omega (arith, ints, clamps); high = omega (arith, ints, clamps, some) }, of_eq (int_max r.lo n) n (omega (arith, ints, clamps, some)));
-  high = (record { low = omega (arith, ints, clamps, some); high = omega (arith, ints, clamps) }, of_eq (int_min r.hi n) n (omega (arith, ints, clamps, some)));
+  low = (record { low = omega (arith, ints, clamps); high = omega (arith, ints, clamps, some) }, int_eq-true (int_max r.lo n) n (omega (arith, ints, clamps, some)));
+  high = (record { low = omega (arith, ints, clamps, some); high = omega (arith, ints, clamps) }, int_eq-true (int_min r.hi n) n (omega (arith, ints, clamps, some)));
 }
 ends_hold NotEqual n r is some =
     let from_lo = up_by (int_eq r.lo n) r.lo in

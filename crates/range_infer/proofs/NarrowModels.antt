@@ -74,38 +74,38 @@ truths_redeclared g ranges keep fitting v truth =
 -- ---- vertices
 
 module _ (g : EventGraph) (ranges : List VarRange) where
-  pub record ChangeKnown (c : StateChange) : Type 0 where
+  pub record ChangeInRanges (c : StateChange) : Type 0 where
     pub keeps : KeepsChange g.variables (length g.tables) (parameters_of g) c
     pub takes : AllByRecursion (HoldsIncoming g ranges) (into_change g (with_ranges g.variables ranges) c)
 
-  pub record EdgeKnown (e : EventEdge) : Type 0 where
+  pub record EdgeInRanges (e : EventEdge) : Type 0 where
     pub keeps : KeepsEdge g.variables (length g.tables) (parameters_of g) e
     pub takes : AllByRecursion (HoldsIncoming g ranges) (into_edge g (with_ranges g.variables ranges) e)
 
-  pub record VertexKnown (v : EventVertex) : Type 0 where
-    pub changes : AllByRecursion ChangeKnown v.changes
-    pub edges : AllByRecursion EdgeKnown v.edges
+  pub record VertexInRanges (v : EventVertex) : Type 0 where
+    pub changes : AllByRecursion ChangeInRanges v.changes
+    pub edges : AllByRecursion EdgeInRanges v.edges
 
   abbrev Takes : List Incoming → Type 0
   Takes = AllByRecursion (HoldsIncoming g ranges)
 
-  vertex_known : (v : EventVertex) → KeepsVertex g.variables (length g.tables) (parameters_of g) v → Takes (into_vertex g (with_ranges g.variables ranges) v) → VertexKnown v
-  vertex_known v keeps takes =
+  vertex_in_ranges : (v : EventVertex) → KeepsVertex g.variables (length g.tables) (parameters_of g) v → Takes (into_vertex g (with_ranges g.variables ranges) v) → VertexInRanges v
+  vertex_in_ranges v keeps takes =
       let changes = flat_map (into_change g (with_ranges g.variables ranges)) v.changes in
       let edges = flat_map (into_edge g (with_ranges g.variables ranges)) v.edges in
       record {
-        changes = every-both _ (λ (c : StateChange). Takes (into_change g (with_ranges g.variables ranges) c)) ChangeKnown (λ c keeps takes. record { keeps = keeps; takes = takes }) v.changes keeps.changes
+        changes = every-both _ (λ (c : StateChange). Takes (into_change g (with_ranges g.variables ranges) c)) ChangeInRanges (λ c keeps takes. record { keeps = keeps; takes = takes }) v.changes keeps.changes
             (every-flat_map (HoldsIncoming g ranges) (into_change g (with_ranges g.variables ranges)) v.changes (every-front (HoldsIncoming g ranges) changes edges takes));
-        edges = every-both _ (λ (e : EventEdge). Takes (into_edge g (with_ranges g.variables ranges) e)) EdgeKnown (λ e keeps takes. record { keeps = keeps; takes = takes }) v.edges keeps.edges
+        edges = every-both _ (λ (e : EventEdge). Takes (into_edge g (with_ranges g.variables ranges) e)) EdgeInRanges (λ e keeps takes. record { keeps = keeps; takes = takes }) v.edges keeps.edges
             (every-flat_map (HoldsIncoming g ranges) (into_edge g (with_ranges g.variables ranges)) v.edges (every-after (HoldsIncoming g ranges) changes edges takes));
       }
 
-  known_at : (us : List EventVertex) → AllByRecursion VertexKnown us → (k : ℕ) → VertexKnown (slice_index_or us k no_vertex)
-  known_at [] all k = record { changes = tt; edges = tt }
-  known_at (u ∷ us) all zero = all.0
-  known_at (u ∷ us) all (suc k) = known_at us all.1 k
+  in_ranges_at : (us : List EventVertex) → AllByRecursion VertexInRanges us → (k : ℕ) → VertexInRanges (slice_index_or us k no_vertex)
+  in_ranges_at [] all k = record { changes = tt; edges = tt }
+  in_ranges_at (u ∷ us) all zero = all.0
+  in_ranges_at (u ∷ us) all (suc k) = in_ranges_at us all.1 k
 
-  pub vertices_known : KeepsParts g → Inductive g ranges → (k : ℕ) → VertexKnown (vertex_at g k)
-  vertices_known keeps inductive =
-      known_at g.vertices (every-both _ (λ (v : EventVertex). Takes (into_vertex g (with_ranges g.variables ranges) v)) VertexKnown vertex_known g.vertices keeps.vertices
+  pub vertices_in_ranges : KeepsParts g → Inductive g ranges → (k : ℕ) → VertexInRanges (vertex_at g k)
+  vertices_in_ranges keeps inductive =
+      in_ranges_at g.vertices (every-both _ (λ (v : EventVertex). Takes (into_vertex g (with_ranges g.variables ranges) v)) VertexInRanges vertex_in_ranges g.vertices keeps.vertices
       (every-flat_map (HoldsIncoming g ranges) (into_vertex g (with_ranges g.variables ranges)) g.vertices inductive.takes))

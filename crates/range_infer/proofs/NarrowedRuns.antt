@@ -24,7 +24,7 @@ use Rattle.model_core.specs.declared.var_range.VarRange.{VarRange}
 use Rattle.model_core.specs.Ranges.OtherRanges.{with_range, model_with_ranges}
 use Rattle.model_core.specs.Ranges.Inductive.{is_fixed, Fitting, Inductive}
 use Rattle.range_infer.proofs.ModelWithRanges.{same_but_range, range_given, same_start}
-use Rattle.range_infer.proofs.NarrowModels.{fits_everywhere, parameter_fixed, begins_in_range, ChangeKnown, EdgeKnown, VertexKnown, vertices_known}
+use Rattle.range_infer.proofs.NarrowModels.{fits_everywhere, parameter_fixed, begins_in_range, ChangeInRanges, EdgeInRanges, VertexInRanges, vertices_in_ranges}
 use Rattle.range_infer.proofs.SameStores.{StoreFits, same_stores, fixed_fits}
 use Rattle.range_infer.proofs.SameChanges.{same_change}
 use Rattle.range_infer.proofs.SameEdges.{EntryFits, PlannedFits, same_edge, edge_fits}
@@ -34,7 +34,7 @@ abbrev OneAnd : {S : Type 0} → (S → Type 0) → S → S → Type 0
 OneAnd Q s t = (s ≡ t) × Q s
 
 one-and : {S : Type 0} (Q : S → Type 0) {r q : OrFault S} → r ≡ q → ((s : S) → r ≡ Ok s → Q s) → Alongside (OneAnd Q) r q
-one-and {S} Q e known = alongside-known (λ (s t : S). s ≡ t) Q (alongside-equal (λ (s t : S). s ≡ t) (λ s. refl) e) known
+one-and {S} Q e in_ranges = alongside-known (λ (s t : S). s ≡ t) Q (alongside-equal (λ (s t : S). s ≡ t) (λ s. refl) e) in_ranges
 
 module _ (g : EventGraph) (ranges : List VarRange) (keeps : KeepsParts g) (fitting : Fitting g ranges) (inductive : Inductive g ranges) where
   abbrev h : EventGraph
@@ -59,32 +59,32 @@ module _ (g : EventGraph) (ranges : List VarRange) (keeps : KeepsParts g) (fitti
   abbrev DrawnInside : ChangeState → Type 0
   DrawnInside d = Inside d.state
 
-  changes_made : (seed clk : ℕ) → clk ≤ 2 ^ 48 → (v : EventVertex) → VertexKnown g ranges v → (d : ChangeState) → DrawnInside d → Alongside (OneAnd DrawnInside) (in_turn (make_change g seed clk) v.changes d) (in_turn (make_change h seed clk) v.changes d)
-  changes_made seed clk early v known d inside =
+  changes_made : (seed clk : ℕ) → clk ≤ 2 ^ 48 → (v : EventVertex) → VertexInRanges g ranges v → (d : ChangeState) → DrawnInside d → Alongside (OneAnd DrawnInside) (in_turn (make_change g seed clk) v.changes d) (in_turn (make_change h seed clk) v.changes d)
+  changes_made seed clk early v in_ranges d inside =
       subst (λ (cs : List StateChange). Alongside (OneAnd DrawnInside) (in_turn (make_change g seed clk) v.changes d) (in_turn (make_change h seed clk) cs d)) (map-id v.changes)
-      (in_turn-alongside (ChangeKnown g ranges) (λ c. c) (OneAnd DrawnInside) (make_change g seed clk) (make_change h seed clk) (λ c known d d2 (one, inside).
-      let same = same_change g ranges fitting keeps seed clk early c d inside known in
+      (in_turn-alongside (ChangeInRanges g ranges) (λ c. c) (OneAnd DrawnInside) (make_change g seed clk) (make_change h seed clk) (λ c in_ranges d d2 (one, inside).
+      let same = same_change g ranges fitting keeps seed clk early c d inside in_ranges in
       subst (λ (d2 : ChangeState). Alongside (OneAnd DrawnInside) (make_change g seed clk c d) (make_change h seed clk c d2)) one
-      (one-and DrawnInside same (λ e done. (in_range-kept h).by_change seed clk c d e inside (sym same ∙ done)))) v.changes known.changes d d (refl, inside))
+      (one-and DrawnInside same (λ e done. (in_range-kept h).by_change seed clk c d e inside (sym same ∙ done)))) v.changes in_ranges.changes d d (refl, inside))
 
   abbrev PlanFits : EdgeState → Type 0
   PlanFits = PlannedFits g ranges fitting keeps
 
-  edges_treated : (seed clk : ℕ) → clk ≤ 2 ^ 48 → (v : EventVertex) → VertexKnown g ranges v → (s : State) → Inside s → (p : EdgeState) → PlanFits p → Alongside (OneAnd PlanFits) (in_turn (treat_edge g seed s clk) v.edges p) (in_turn (treat_edge h seed s clk) v.edges p)
-  edges_treated seed clk early v known s inside p fits =
+  edges_treated : (seed clk : ℕ) → clk ≤ 2 ^ 48 → (v : EventVertex) → VertexInRanges g ranges v → (s : State) → Inside s → (p : EdgeState) → PlanFits p → Alongside (OneAnd PlanFits) (in_turn (treat_edge g seed s clk) v.edges p) (in_turn (treat_edge h seed s clk) v.edges p)
+  edges_treated seed clk early v in_ranges s inside p fits =
       subst (λ (es : List EventEdge). Alongside (OneAnd PlanFits) (in_turn (treat_edge g seed s clk) v.edges p) (in_turn (treat_edge h seed s clk) es p)) (map-id v.edges)
-      (in_turn-alongside (EdgeKnown g ranges) (λ e. e) (OneAnd PlanFits) (treat_edge g seed s clk) (treat_edge h seed s clk) (λ e known p p2 (one, fits).
+      (in_turn-alongside (EdgeInRanges g ranges) (λ e. e) (OneAnd PlanFits) (treat_edge g seed s clk) (treat_edge h seed s clk) (λ e in_ranges p p2 (one, fits).
       subst (λ (p2 : EdgeState). Alongside (OneAnd PlanFits) (treat_edge g seed s clk e p) (treat_edge h seed s clk e p2)) one
-      (one-and PlanFits (same_edge g ranges fitting keeps seed s clk e p) (λ q done. edge_fits g ranges fitting keeps s inside clk early seed e known p q fits done))) v.edges known.edges p p (refl, fits))
+      (one-and PlanFits (same_edge g ranges fitting keeps seed s clk e p) (λ q done. edge_fits g ranges fitting keeps s inside clk early seed e in_ranges p q fits done))) v.edges in_ranges.edges p p (refl, fits))
 
   occurs : (seed : ℕ) (n : EntryAndRest) → n.entry.time ≤ 2 ^ 48 → Fits n.entry → AllByRecursion Fits n.others → (s : State) (taken : List ℕ) → Inside s → Alongside (OneAnd Sound) (occur g seed (vertex_at g n.entry.vertex) n s taken) (occur h seed (vertex_at g n.entry.vertex) n s taken)
   occurs seed n due fit fits s taken inside =
       let v = vertex_at g n.entry.vertex in
-      let known = vertices_known g ranges keeps inductive n.entry.vertex in
+      let in_ranges = vertices_in_ranges g ranges keeps inductive n.entry.vertex in
       let clk = n.entry.time in
       bind-alongside (OneAnd Inside) (OneAnd Sound) (receives n.entry.vertex n.entry.values fit s inside) _ _ (λ t t2 (one, in_t).
-      bind-alongside (OneAnd DrawnInside) (OneAnd Sound) (subst (λ (t2 : State). Alongside (OneAnd DrawnInside) (in_turn (make_change g seed clk) v.changes (record { state = t; taken = taken })) (in_turn (make_change h seed clk) v.changes (record { state = t2; taken = taken }))) one (changes_made seed clk due v known (record { state = t; taken = taken }) in_t)) _ _ (λ d d2 (one, in_d).
-      bind-alongside (OneAnd PlanFits) (OneAnd Sound) (subst (λ (d2 : ChangeState). Alongside (OneAnd PlanFits) (in_turn (treat_edge g seed d.state clk) v.edges (record { pending = n.others; taken = d.taken })) (in_turn (treat_edge h seed d2.state clk) v.edges (record { pending = n.others; taken = d2.taken }))) one (edges_treated seed clk due v known d.state in_d (record { pending = n.others; taken = d.taken }) fits)) _ _ (λ p p2 (same, fit).
+      bind-alongside (OneAnd DrawnInside) (OneAnd Sound) (subst (λ (t2 : State). Alongside (OneAnd DrawnInside) (in_turn (make_change g seed clk) v.changes (record { state = t; taken = taken })) (in_turn (make_change h seed clk) v.changes (record { state = t2; taken = taken }))) one (changes_made seed clk due v in_ranges (record { state = t; taken = taken }) in_t)) _ _ (λ d d2 (one, in_d).
+      bind-alongside (OneAnd PlanFits) (OneAnd Sound) (subst (λ (d2 : ChangeState). Alongside (OneAnd PlanFits) (in_turn (treat_edge g seed d.state clk) v.edges (record { pending = n.others; taken = d.taken })) (in_turn (treat_edge h seed d2.state clk) v.edges (record { pending = n.others; taken = d2.taken }))) one (edges_treated seed clk due v in_ranges d.state in_d (record { pending = n.others; taken = d.taken }) fits)) _ _ (λ p p2 (same, fit).
       both_go (ap₂ (λ (d : ChangeState) (p : EdgeState). record { clock = clk; state = d.state; taken = p.taken; pending = p.pending }) one same, record { inside = in_d; pending = fit }))))
 
   -- ---- each step is followed

@@ -21,9 +21,6 @@ number_of-injective true false e = cc
 number_of-injective false true e = cc
 number_of-injective false false e = refl
 
-pub of_eq : (a b : ℤ) → a ≡ b → int_eq a b ≡ true
-of_eq a b e = grind (arith, ints)
-
 not_not : (a b : Bool) → not a ≡ b → a ≡ not b
 not_not true b e = ap not e
 not_not false b e = ap not e
@@ -107,10 +104,10 @@ by_test op false n x r i e = i
 
 -- the value of a literal
 exact-value : (x y : ℤ) → exact x ≡ Ok y → x ≡ y
-exact-value x y e = known (within (neg_ℤ (pos (2 ^ 63))) (pos (2 ^ 63 - 1)) x) e where
-  known : (b : Bool) → cond b (Ok x) (Err faults.Overflow) ≡ Ok y → x ≡ y
-  known true e = cc
-  known false e = cc
+exact-value x y e = by (within (neg_ℤ (pos (2 ^ 63))) (pos (2 ^ 63 - 1)) x) e where
+  by : (b : Bool) → cond b (Ok x) (Err faults.Overflow) ≡ Ok y → x ≡ y
+  by true e = cc
+  by false e = cc
 
 number-value : (g : EventGraph) (s : State) (clk : ℕ) (e : Expression) (n x : ℤ) → number_literal e ≡ Some n → value_of g s clk e ≡ Ok x → x ≡ n
 number-value g s clk (Number m) n x is e = cc

@@ -17,7 +17,7 @@ walk_more w xs i d small = ap (walk w) (take_more xs i d small) ∙ fold-append 
 -- what is known of a walk over so many of these items
 pub record WalkedOver (first : RangesLeft) (w : Walk) (now : RangesLeft) (before : List Bounds) (kept : List ℕ) (last : Bounds) : Type 0 where
   pub found : last ∷ reverse before ≡ w.found
-  pub stands : LeftOnWalk first now (reverse kept) w
+  pub on_walk : LeftOnWalk first now (reverse kept) w
 
 module _ (first : RangesLeft) (w : Walk) (xs : List PostfixItem) (i : ℕ) (d : PostfixItem) (small : i < length xs) (now : RangesLeft) (before : List Bounds) (kept : List ℕ) (last : Bounds) (walked_so : WalkedOver first (walk w (take i xs)) now before kept last) where
   abbrev before_it : Walk
@@ -31,20 +31,20 @@ module _ (first : RangesLeft) (w : Walk) (xs : List PostfixItem) (i : ℕ) (d : 
       let more = walk_more w xs i d small in
       record {
         found = walked_so.found ∙ (sym (of_ranges before_it it is) ∙ ap (λ (u : Walk). u.found) (sym more));
-        stands = subst (LeftOnWalk first next (reverse after)) (sym more) (goes first before_it is walked_so.stands);
+        on_walk = subst (LeftOnWalk first next (reverse after)) (sym more) (goes first before_it is walked_so.on_walk);
       }
 
   pub operand_more : is_of_ranges it ≡ false → (after : List Bounds) (next : Bounds) → next ∷ reverse after ≡ after_item (variables_left now) (last ∷ reverse before) it → WalkedOver first (walk w (take (i + 1) xs)) now after kept next
   operand_more is after next found =
       let more = walk_more w xs i d small ∙ of_operands before_it it is in
       record {
-        found = found ∙ (ap₂ (λ (rs : List Variable) (fs : List Bounds). after_item rs fs it) walked_so.stands.ranges walked_so.found ∙ ap (λ (u : Walk). u.found) (sym more));
-        stands = subst (LeftOnWalk first now (reverse kept)) (sym more) (record { ranges = walked_so.stands.ranges; kept = walked_so.stands.kept });
+        found = found ∙ (ap₂ (λ (rs : List Variable) (fs : List Bounds). after_item rs fs it) walked_so.on_walk.ranges walked_so.found ∙ ap (λ (u : Walk). u.found) (sym more));
+        on_walk = subst (LeftOnWalk first now (reverse kept)) (sym more) (record { ranges = walked_so.on_walk.ranges; kept = walked_so.on_walk.kept });
       }
 
 -- the same, under other names
 pub same_walk : (first : RangesLeft) (w : Walk) (left now : RangesLeft) (xs before : List Bounds) (ns kept : List ℕ) (b last : Bounds) → left ≡ now → xs ≡ before → ns ≡ kept → b ≡ last → WalkedOver first w left xs ns b → WalkedOver first w now before kept last
 same_walk first w left now xs before ns kept b last one two three four so = record {
   found = sym (ap₂ (λ (x : Bounds) (ys : List Bounds). x ∷ reverse ys) four two) ∙ so.found;
-  stands = subst (λ (l : RangesLeft). LeftOnWalk first l (reverse kept) w) one (subst (λ (ms : List ℕ). LeftOnWalk first left (reverse ms) w) three so.stands);
+  on_walk = subst (λ (l : RangesLeft). LeftOnWalk first l (reverse kept) w) one (subst (λ (ms : List ℕ). LeftOnWalk first left (reverse ms) w) three so.on_walk);
 }

@@ -11,18 +11,18 @@ use Rattle.range_infer.specs.Inner.LookedAt.{TakesAgain}
 use Rattle.range_infer.proofs.OneRound.{Growing, variables_given}
 use Rattle.range_infer.proofs.OpenEnds.{open_ends, at_most_two_each}
 use Rattle.range_infer.proofs.RoundsEnd.{growing_after, bounded_more, few_rounds}
-use Rattle.range_infer.proofs.PassedOver.{StandsFor, stands_again}
+use Rattle.range_infer.proofs.PassedOver.{SufficesFor, suffices_again}
 
 -- the ranges after so many rounds, of which each late one changed something, and a list in place of all that is taken under them
 pub record Turn (g : EventGraph) (rounds : ℕ) (ranges : List VarRange) (takes : List Incoming) : Type 0 where
   pub reached : ranges ≡ after_rounds g rounds
-  pub stand : StandsFor g ranges takes
+  pub suffices : SufficesFor g ranges takes
   pub bounded : rounds + open_ends g.variables ranges ≤ 16 + 2 * length g.variables
 
 pub first_turn : (g : EventGraph) (ranges seen : List VarRange) (takes : List Incoming) → ranges ≡ after_rounds g 0 → seen ≡ ranges → takes ≡ incoming g seen → Turn g 0 ranges takes
 first_turn g ranges seen takes first same taken = record {
   reached = first;
-  stand = λ late. ap (λ (is : List Incoming). each_variable g (next_range g late is ranges)) (taken ∙ ap (incoming g) same);
+  suffices = λ late. ap (λ (is : List Incoming). each_variable g (next_range g late is ranges)) (taken ∙ ap (incoming g) same);
   bounded = omega (arith, at_most_two_each g.variables ranges);
 }
 
@@ -41,7 +41,7 @@ module _ (g : EventGraph) (keeps : KeepsParts g) (rounds : ℕ) (ranges : List V
   is_round late seen given next so same are made =
       let when : late ≡ nat_le 17 (suc rounds) = so ∙ (let one : nat_le 16 rounds ≡ nat_le 17 (suc rounds) = grind (arith, nat_tests) in one) in
       made ∙ (ap₂ (λ (is : List Incoming) (rs : List VarRange). each_variable g (next_range g late is rs)) are same ∙
-      (turn.stand late ∙ ap (λ (late : Bool). each_variable g (next_range g late (incoming g ranges) ranges)) when))
+      (turn.suffices late ∙ ap (λ (late : Bool). each_variable g (next_range g late (incoming g ranges) ranges)) when))
 
   module _ (next : List VarRange) (made : next ≡ round g (suc rounds) ranges) where
     pub many_next : length next ≡ length g.variables
@@ -56,6 +56,6 @@ module _ (g : EventGraph) (keeps : KeepsParts g) (rounds : ℕ) (ranges : List V
         let ends : open_ends g.variables next ≡ open_ends g.variables (round g (suc rounds) ranges) = ap (open_ends g.variables) made in
         record {
           reached = made ∙ (ap (round g (suc rounds)) turn.reached ∙ ap (after_rounds g) (let one : suc rounds ≡ rounds + 1 = omega arith in one));
-          stand = stands_again g ranges next growing (suc rounds) made again (subst (λ (rs : List VarRange). TakesAgain g rs next again) o (subst (λ (rs : List VarRange). TakesAgain g old rs again) n taken));
+          suffices = suffices_again g ranges next growing (suc rounds) made again (subst (λ (rs : List VarRange). TakesAgain g rs next again) o (subst (λ (rs : List VarRange). TakesAgain g old rs again) n taken));
           bounded = omega (arith, more, ends);
         }

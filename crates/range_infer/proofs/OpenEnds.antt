@@ -12,9 +12,9 @@ use Rattle.model_core.specs.Ranges.Inductive.{is_fixed, Encloses, FitsVariable}
 use Rattle.model_core.specs.Ranges.Inference.{grown_range, ends_moved, next_range, round}
 use Rattle.model_core.specs.Ranges.Incoming.{incoming}
 use Rattle.range_infer.proofs.NarrowModels.{fits_everywhere}
-use Rattle.range_infer.proofs.NumbersLeft.{of_eq}
 use Rattle.range_infer.proofs.OneRound.{Growing, all-holds, all-inside, variable_given, variables_given}
 use Rattle.std.specs.List.{fold}
+use Rattle.sig_base.proofs.Tests.{int_eq-true}
 use Rattle.model_core.proofs.SameExpressions.{true-int_eq}
 
 -- 0 where an end is the declared one, and else 1
@@ -42,7 +42,7 @@ pub record EndMoves (jumps : Bool) (declared x y : ℤ) : Type 0 where
   pub lands : jumps ≡ true → (y ≡ x) ⊎ (y ≡ declared)
 
 closed : (d x : ℤ) → x ≡ d → open_end d x ≡ 0
-closed d x e = ap (λ (b : Bool). cond b 0 1) (of_eq x d e)
+closed d x e = ap (λ (b : Bool). cond b 0 1) (int_eq-true x d e)
 
 no_more : (jumps : Bool) (d x y : ℤ) → EndMoves jumps d x y → open_end d y ≤ open_end d x
 no_more jumps d x y m = by (int_eq x d) refl where

@@ -102,31 +102,31 @@ module _ (P : Incoming → Type 0) where
     module _ (us : List EventVertex) (parts : List PartPlace) (are_all : (p : PartPlace) (v : ℕ) → Contains (part_vars (map parts_read us) p) v → is_moved moved v ≡ true → Contains parts p)
         (held : AllByRecursion P (flat_map (part_seen g false moved rs us) parts)) where
       there : (p : PartPlace) (u : EventVertex) → Among u (one_at p.vertex us) → list_any (is_moved moved) (vertex_part_vars p (parts_read u)) ≡ true → AllByRecursion P (vertex_part_seen g false moved rs p u)
-      there p u stands some =
+      there p u named some =
           let (v, among, is) = any-among (is_moved moved) (vertex_part_vars p (parts_read u)) some in
-          let reads = among-flat_map (vertex_part_vars p) (one_at p.vertex (map parts_read us)) (parts_read u) v (one-map parts_read p.vertex us u stands) among in
+          let reads = among-flat_map (vertex_part_vars p) (one_at p.vertex (map parts_read us)) (parts_read u) v (one-map parts_read p.vertex us u named) among in
           let found = among-contained parts p (are_all p v (contained-among (part_vars (map parts_read us) p) v reads) is) in
-          one_of (vertex_part_seen g false moved rs p) (one_at p.vertex us) u (one_of (part_seen g false moved rs us) parts p held found) stands
+          one_of (vertex_part_seen g false moved rs p) (one_at p.vertex us) u (one_of (part_seen g false moved rs us) parts p held found) named
 
       -- of a vertex the part at a place, which is in this list
       part_held : {A R : Type 0} (gives : A → List Incoming) (reads : A → R) (vars : R → List ℕ) (xs : List A) (p : PartPlace) (u : EventVertex)
           → flat_map vars (one_at p.place (map reads xs)) ≡ vertex_part_vars p (parts_read u) → vertex_part_seen g false moved rs p u ≡ flat_map gives (one_at p.place xs)
           → ((x : A) → list_any (is_moved moved) (vars (reads x)) ≡ false → gives x ≡ [])
           → Among u (one_at p.vertex us) → (x : A) → Among x (one_at p.place xs) → AllByRecursion P (gives x)
-      part_held gives reads vars xs p u read seen quiet stands x here = by (list_any (is_moved moved) (vars (reads x))) refl where
+      part_held gives reads vars xs p u read seen quiet named x here = by (list_any (is_moved moved) (vars (reads x))) refl where
         by : (b : Bool) → list_any (is_moved moved) (vars (reads x)) ≡ b → AllByRecursion P (gives x)
         by false none = subst (AllByRecursion P) (sym (quiet x none)) tt
         by true some =
             let (v, among, is) = any-among (is_moved moved) (vars (reads x)) some in
             let has = subst (Among v) read (among-flat_map vars (one_at p.place (map reads xs)) (reads x) v (one-map reads p.place xs x here) among) in
-            one_of gives (one_at p.place xs) x (subst (AllByRecursion P) seen (there p u stands (among-any (is_moved moved) (vertex_part_vars p (parts_read u)) v has is))) here
+            one_of gives (one_at p.place xs) x (subst (AllByRecursion P) seen (there p u named (among-any (is_moved moved) (vertex_part_vars p (parts_read u)) v has is))) here
 
       change_held : (i : ℕ) (u : EventVertex) → Among u (one_at i us) → (j : ℕ) (c : StateChange) → Among c (one_at j u.changes) → AllByRecursion P (change c)
-      change_held i u stands j = part_held change set_reads value_vars u.changes (record { vertex = i; is_edge = false; place = j }) u refl refl quiet_change stands
+      change_held i u named j = part_held change set_reads value_vars u.changes (record { vertex = i; is_edge = false; place = j }) u refl refl quiet_change named
 
       edge_held : (i : ℕ) (u : EventVertex) → Among u (one_at i us) → (j : ℕ) (e : EventEdge) → Among e (one_at j u.edges) → AllByRecursion P (edge e)
-      edge_held i u stands j = part_held edge carried_reads edge_vars u.edges (record { vertex = i; is_edge = true; place = j }) u refl refl quiet_edge stands
+      edge_held i u named j = part_held edge carried_reads edge_vars u.edges (record { vertex = i; is_edge = true; place = j }) u refl refl quiet_edge named
 
       pub all_seen_too : AllByRecursion P (flat_map (vertex_seen g false moved rs) us)
-      all_seen_too = by_places (vertex_seen g false moved rs) us (λ i u stands.
-          every-joined P (flat_map change u.changes) (flat_map edge u.edges) (by_places change u.changes (change_held i u stands)) (by_places edge u.edges (edge_held i u stands)))
+      all_seen_too = by_places (vertex_seen g false moved rs) us (λ i u named.
+          every-joined P (flat_map change u.changes) (flat_map edge u.edges) (by_places change u.changes (change_held i u named)) (by_places edge u.edges (edge_held i u named)))

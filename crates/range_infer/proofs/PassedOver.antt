@@ -29,7 +29,7 @@ use Rattle.range_infer.proofs.AssignedBeside.{nothing_seen}
 use Rattle.range_infer.proofs.ModelWithRanges.{range_given, as_many_variables}
 use Rattle.range_infer.proofs.OneRound.{holds-itself, holds-trans, wider, Growing, all-holds, all-inside, all-taken, all-least, ends_moved-takes, ordered, round-growing, variable_given, variables_given}
 use Rattle.range_infer.proofs.NarrowModels.{fits_everywhere}
-use Rattle.range_infer.proofs.UnmovedParts.{StayElsewhere, Unmoved, known, bounds_stay}
+use Rattle.range_infer.proofs.UnmovedParts.{StayElsewhere, Unmoved, refined_stays, bounds_stay}
 
 hull-stays : (r : VarRange) (o : Option VarRange) → IfSome o (Encloses r) → hull r o ≡ r
 hull-stays r None h = refl
@@ -97,30 +97,30 @@ module _ (g : EventGraph) (v : ℕ) (in_order : (variable_at g v).lo ≤ℤ (var
       abbrev params : List ℕ
       params = (vertex_at g e.target).parameters
 
-      abbrev known_old : List Variable
-      known_old = refined e.condition true old
+      abbrev old_refined : List Variable
+      old_refined = refined e.condition true old
 
-      abbrev known_new : List Variable
-      known_new = refined e.condition true new
+      abbrev new_refined : List Variable
+      new_refined = refined e.condition true new
 
       abbrev gives : List Variable → Bool
       gives ranges = (bounds_under refined ranges e.condition).can_true
 
-      by_values : StayElsewhere moved known_old known_new → (k t some : Bool) → (some ≡ false → assigned_seen false moved known_new params e.values ≡ []) → AllByRecursion IsHeld (cond (k && t) (assigned known_old params e.values) [])
-          → GrowAlike (cond (k && some) (cond t (assigned_seen false moved known_new params e.values) []) []) (cond (k && t) (assigned known_new params e.values) [])
+      by_values : StayElsewhere moved old_refined new_refined → (k t some : Bool) → (some ≡ false → assigned_seen false moved new_refined params e.values ≡ []) → AllByRecursion IsHeld (cond (k && t) (assigned old_refined params e.values) [])
+          → GrowAlike (cond (k && some) (cond t (assigned_seen false moved new_refined params e.values) []) []) (cond (k && t) (assigned new_refined params e.values) [])
       by_values after false t some nothing held = λ x wide. refl
       by_values after true false true nothing held = λ x wide. refl
       by_values after true false false nothing held = λ x wide. refl
-      by_values after true true true nothing held = assigned_alike moved known_old known_new after params e.values held
-      by_values after true true false nothing held = subst (λ (is : List Incoming). GrowAlike is (assigned known_new params e.values)) (nothing refl) (assigned_alike moved known_old known_new after params e.values held)
+      by_values after true true true nothing held = assigned_alike moved old_refined new_refined after params e.values held
+      by_values after true true false nothing held = subst (λ (is : List Incoming). GrowAlike is (assigned new_refined params e.values)) (nothing refl) (assigned_alike moved old_refined new_refined after params e.values held)
 
       -- where the condition reads none the edge schedules where it did
       unread : list_any (is_moved moved) (variables_in e.condition) ≡ false → AllByRecursion IsHeld (into_edge g old e) → GrowAlike (values_seen g false moved new e) (into_edge g new e)
       unread none held =
           let still : Unmoved moved (variables_in e.condition) = every-fails (is_moved moved) (variables_in e.condition) none in
           let same : gives old ≡ gives new = ap (λ (b : Bounds). b.can_true) (bounds_stay moved e.condition old new stay still) in
-          by_values (known moved e.condition true old new stay still) (is_scheduling e.kind) (gives new) (list_any (looks_at_value false moved) (each_reads e.values)) (nothing_seen false moved known_new params e.values)
-          (subst (λ (t : Bool). AllByRecursion IsHeld (cond (is_scheduling e.kind && t) (assigned known_old params e.values) [])) same held)
+          by_values (refined_stays moved e.condition true old new stay still) (is_scheduling e.kind) (gives new) (list_any (looks_at_value false moved) (each_reads e.values)) (nothing_seen false moved new_refined params e.values)
+          (subst (λ (t : Bool). AllByRecursion IsHeld (cond (is_scheduling e.kind && t) (assigned old_refined params e.values) [])) same held)
 
       edge_alike : AllByRecursion IsHeld (into_edge g old e) → GrowAlike (edge_seen g false moved new e) (into_edge g new e)
       edge_alike held = by (list_any (is_moved moved) (variables_in e.condition)) refl where
@@ -160,8 +160,8 @@ grown_same g v in_order r some all into from =
 -- ---- all variables, after a round
 
 -- what is taken so leads to the same next ranges as all that is taken
-abbrev pub StandsFor : EventGraph → List VarRange → List Incoming → Type 0
-StandsFor g ranges takes = (late : Bool) → each_variable g (next_range g late takes ranges) ≡ each_variable g (next_range g late (incoming g ranges) ranges)
+abbrev pub SufficesFor : EventGraph → List VarRange → List Incoming → Type 0
+SufficesFor g ranges takes = (late : Bool) → each_variable g (next_range g late takes ranges) ≡ each_variable g (next_range g late (incoming g ranges) ranges)
 
 module _ (g : EventGraph) (before ranges : List VarRange) (growing : Growing g before) (k : ℕ) (made : ranges ≡ round g k before) where
   now_growing : Growing g ranges
@@ -199,8 +199,8 @@ module _ (g : EventGraph) (before ranges : List VarRange) (growing : Growing g b
             ap (ends_moved late (declared_range (variable_at g v)) r)
             (alike v ∙ vertices_alike g v (ordered g before growing v) r moved (with_ranges g.variables before) (with_ranges g.variables ranges) stay g.vertices (held v small free) r (holds-itself r))
 
-      stands : StandsFor g ranges takes
-      stands late =
+      suffices : SufficesFor g ranges takes
+      suffices late =
           let some : ℕ → VarRange = next_range g late takes ranges in
           let all : ℕ → VarRange = next_range g late (incoming g ranges) ranges in
           ext_get_or no_range (each_variable g some) (each_variable g all) (variables_given g some ∙ sym (variables_given g all)) (λ v small.
@@ -217,8 +217,8 @@ module _ (g : EventGraph) (before ranges : List VarRange) (growing : Growing g b
         (λ out has. all_seen_too (IsHeld g v order out) g moved rs g.vertices readers.parts readers.are_all has)
         (λ out has. of_all (IsHeld g v order out) g moved rs g.vertices readers.parts has)
 
-  pub stands_again : (takes : List Incoming) → TakesAgain g before ranges takes → StandsFor g ranges takes
-  stands_again takes again = by again.are where
-    by : (takes ≡ incoming_seen g false again.moved ranges) ⊎ TakenByReaders g again.moved ranges takes → StandsFor g ranges takes
-    by (inl same) = stands again.moved again.marks takes (λ v. ap (fold (grown_range g v) (range_at ranges v)) same)
-    by (inr readers) = stands again.moved again.marks takes (by_readers again.moved again.marks takes readers)
+  pub suffices_again : (takes : List Incoming) → TakesAgain g before ranges takes → SufficesFor g ranges takes
+  suffices_again takes again = by again.are where
+    by : (takes ≡ incoming_seen g false again.moved ranges) ⊎ TakenByReaders g again.moved ranges takes → SufficesFor g ranges takes
+    by (inl same) = suffices again.moved again.marks takes (λ v. ap (fold (grown_range g v) (range_at ranges v)) same)
+    by (inr readers) = suffices again.moved again.marks takes (by_readers again.moved again.marks takes readers)

@@ -1,12 +1,11 @@
 -- Each part is in the list of each variable that it reads.
 use Rattle.std.proofs.Common.{◌≡◌, ◌⊎◌, inl, inr, ℕ, zero, suc, ◌+◌, ◌-◌, ◌<◌, ◌==◌, Bool, true, false, not, cond, List, [], ◌∷◌, ◌++◌, length, slice_index_or, refl, sym, ◌∙◌, ap, ap₂, subst, arith}
 use Rattle.std.specs.Prelude.{slice_get}
-use Rattle.std.specs.List.{flat_map}
 use Rattle.std.specs.Option.{option_map_or}
-use Rattle.std.proofs.lemmas.Bool.Decides.{nat_tests}
 use Rattle.std.proofs.lemmas.List.FromFn.{length-map-range_with_len}
+use Rattle.std.proofs.lemmas.Bool.{eqb-true}
 use Rattle.model_core.specs.Rules.PlacedEdges.{with_place}
-use Rattle.model_core.proofs.Among.{Among, among-front, among-back, among-either}
+use Rattle.model_core.proofs.Among.{Among, among-front, among-back, among-either, among-of_flat_map}
 use Rattle.model_core.proofs.BothTrue.{and_first, and_second}
 use Rattle.model_core.proofs.PlacesChanged.{length_placed, placed-there}
 use Rattle.range_infer.specs.declared.part_reads.ValueReads.{ValueReads}
@@ -65,14 +64,11 @@ bools_same true false e = cc
 bools_same false true e = cc
 bools_same false false e = refl
 
-numbers_same : (a b : ℕ) → (a == b) ≡ true → a ≡ b
-numbers_same a b e = grind (arith, nat_tests)
-
 same_part : (a b : PartPlace) → is_same_part a b ≡ true → a ≡ b
 same_part a b e =
     let rest = and_second (a.vertex == b.vertex) _ e in
-    let vertex = numbers_same a.vertex b.vertex (and_first (a.vertex == b.vertex) _ e) in
-    let place = numbers_same a.place b.place (and_first (a.place == b.place) _ rest) in
+    let vertex = eqb-true a.vertex b.vertex (and_first (a.vertex == b.vertex) _ e) in
+    let place = eqb-true a.place b.place (and_first (a.place == b.place) _ rest) in
     let kind = bools_same a.is_edge b.is_edge (and_second (a.place == b.place) _ rest) in
     ap₂ (λ (i j : ℕ). let p : PartPlace = record { vertex = i; is_edge = a.is_edge; place = j } in p) vertex place
     ∙ ap (λ (k : Bool). let p : PartPlace = record { vertex = b.vertex; is_edge = k; place = b.place } in p) kind
@@ -109,13 +105,6 @@ variable-keeps p k lists w = record { long = length_placed (with_part p) w lists
 variable-there : (p : PartPlace) (v : ℕ) (lists : Lists) → v < length lists → IsReader (with_place (with_part p) v lists) v p
 variable-there p v lists small =
     subst (Among p) (sym (placed-there (with_part p) v lists [] small)) (part-there p (slice_index_or lists v []))
-
-among-of_flat_map : {A B : Type 0} (f : A → List B) (xs : List A) (y : B) → Among y (flat_map f xs) → (x : A) × Among x xs × Among y (f x)
-among-of_flat_map f [] y among = absurd among
-among-of_flat_map {A} {B} f (x ∷ xs) y among = by (among-either (f x) (flat_map f xs) y among) (among-of_flat_map f xs y) where
-  by : Among y (f x) ⊎ Among y (flat_map f xs) → (Among y (flat_map f xs) → (z : A) × Among z xs × Among y (f z)) → (z : A) × Among z (x ∷ xs) × Among y (f z)
-  by (inl here) rest = (x, inl refl, here)
-  by (inr later) rest = let (z, there, gives) = rest later in (z, inr there, gives)
 
 module _ (n v : ℕ) (small : v < n) where
   variables-keep : (p : PartPlace) (k : ℕ) (lists : Lists) (vs : List ℕ) → Keeps lists (put_variables p lists vs)

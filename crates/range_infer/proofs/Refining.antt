@@ -158,11 +158,11 @@ both_truths op b A C e fit = cc
 module _ (g : EventGraph) (s : State) (clk : ℕ) (truths : (e : Expression) (x : ℤ) → HasKind g.variables e kinds.Truth → value_of g s clk e ≡ Ok x → (t : Bool) × (x ≡ number_of t)) where
   ranges_refined_by-holds : (op : Operator) (left right : Expression) (b : Bool) (ranges : List Variable) → LiesWithin s ranges → value_of g s clk (Binary op left right) ≡ Ok (number_of b) → LiesWithin s (ranges_refined_by op left right b ranges)
   ranges_refined_by-holds op (Scalar v) right b ranges within e =
-      within_holds s _ (each-after_set (HoldsCells s) ranges v (where_holds (cond b op (opposite_comparison op)) (literal_number right) (ranged_at ranges v)) (holds_within s ranges within) (told (literal_number right) refl))
+      within_holds s _ (each-after_set (HoldsCells s) ranges v (where_holds (cond b op (opposite_comparison op)) (literal_number right) (ranged_at ranges v)) (holds_within s ranges within) (by_literal (literal_number right) refl))
     where
-      told : (o : Option ℤ) → literal_number right ≡ o → HoldsCells s v (where_holds (cond b op (opposite_comparison op)) o (ranged_at ranges v))
-      told None is = holds_within s ranges within v
-      told (Some n) is =
+      by_literal : (o : Option ℤ) → literal_number right ≡ o → HoldsCells s v (where_holds (cond b op (opposite_comparison op)) o (ranged_at ranges v))
+      by_literal None is = holds_within s ranges within v
+      by_literal (Some n) is =
           where_holds-holds s v (ranged_at ranges v) (cond b op (opposite_comparison op)) n (holds_within s ranges within v)
           (compared op b (cell_at s (scalar v)) n (value_of g s clk right) (declared_range (ranged_at ranges v)) (λ x done. literal-value g s clk right n x is done) e)
   ranges_refined_by-holds op left right b ranges within e = within
@@ -180,8 +180,8 @@ module _ (g : EventGraph) (s : State) (clk : ℕ) (truths : (e : Expression) (x 
       chosen-holds (refines_both op b) (refined right b (refined left b ranges)) (ranges_refined_by op left right b ranges)
       (λ both.
       let kinds_are = both_truths op b (HasKind g.variables left) (HasKind g.variables right) both is.1 in
-      let told = both_are op b x (value_of g s clk right) both (truths left x kinds_are.0 at_left) later in
-      refined-holds right b (refined left b ranges) kinds_are.1 (refined-holds left b ranges kinds_are.0 within (at_left ∙ ap (λ (x : ℤ). Ok x) told.0)) told.1)
+      let right_too = both_are op b x (value_of g s clk right) both (truths left x kinds_are.0 at_left) later in
+      refined-holds right b (refined left b ranges) kinds_are.1 (refined-holds left b ranges kinds_are.0 within (at_left ∙ ap (λ (x : ℤ). Ok x) right_too.0)) right_too.1)
       (λ not_both. ranges_refined_by-holds op left right b ranges within e)
   refined-holds e b ranges is within done = within
 

@@ -23,7 +23,7 @@ use Rattle.model_core.specs.Ranges.Inductive.{Fitting, HoldsIncoming}
 use Rattle.range_infer.proofs.ModelWithRanges.{has_kind, same_value, same_place}
 use Rattle.bound_laws.proofs.Soundness.DeclaredRanges.{declared_alike, declared_hold}
 use Rattle.range_infer.proofs.BoundsInHold.{between}
-use Rattle.range_infer.proofs.NarrowModels.{truths_redeclared, ChangeKnown}
+use Rattle.range_infer.proofs.NarrowModels.{truths_redeclared, ChangeInRanges}
 use Rattle.range_infer.proofs.SameStores.{StoreFits, same_store, same_stores, in_bounds_fits, values_fit}
 
 module _ (g : EventGraph) (ranges : List VarRange) (fitting : Fitting g ranges) (keeps : KeepsParts g) where
@@ -55,16 +55,16 @@ module _ (g : EventGraph) (ranges : List VarRange) (fitting : Fitting g ranges) 
         (subst (λ (vs : List ℕ). AllByRecursion (HoldsIncoming g ranges) (assigned h.variables vs rights)) (places_named targets places at_places) takes)) s)) ∙
         ap₂ (λ (value : Expression → OrFault ℤ) (place : Location → OrFault Place). each value rights >>= λ values. each place targets >>= λ places. in_turn (store h) (zip places values) s) (λ i e. same_value g ranges s clk e i) (λ i l. same_place g ranges s clk l.variable l.index i)
 
-  pub same_change : (seed clk : ℕ) → clk ≤ 2 ^ 48 → (c : StateChange) (d : ChangeState) → IsTrue (in_range h d.state) → ChangeKnown g ranges c → make_change g seed clk c d ≡ make_change h seed clk c d
-  same_change seed clk early (Set targets rights) d inside known =
-      ap (λ (r : OrFault State). r >>= λ s. Ok (record d { state = s })) (same_set d.state inside clk early targets rights known.keeps known.takes)
-  same_change seed clk early (Draw target stream choice) d inside known =
+  pub same_change : (seed clk : ℕ) → clk ≤ 2 ^ 48 → (c : StateChange) (d : ChangeState) → IsTrue (in_range h d.state) → ChangeInRanges g ranges c → make_change g seed clk c d ≡ make_change h seed clk c d
+  same_change seed clk early (Set targets rights) d inside in_ranges =
+      ap (λ (r : OrFault State). r >>= λ s. Ok (record d { state = s })) (same_set d.state inside clk early targets rights in_ranges.keeps in_ranges.takes)
+  same_change seed clk early (Draw target stream choice) d inside in_ranges =
       let w = word seed stream (taken_from d.taken stream) in
       let x = drawn_value g choice w in
-      let drawn : NumberIn (choice_bounds g choice) x = choice_in g choice (length g.tables) (parameters_of g) w keeps.tables known.keeps.1.1 (word_small seed stream (taken_from d.taken stream)) in
+      let drawn : NumberIn (choice_bounds g choice) x = choice_in g choice (length g.tables) (parameters_of g) w keeps.tables in_ranges.keeps.1.1 (word_small seed stream (taken_from d.taken stream)) in
       let next : OrFault State → OrFault ChangeState = λ r. r >>= λ s. Ok (record { state = s; taken = one_more d.taken stream }) in
       bind_same (place_of g d.state clk target) _ _ (λ p at_place.
       let named = place-variable g d.state clk target.variable target.index p at_place in
-      let fits : StoreFits g ranges fitting (p, x) = in_bounds_fits g ranges fitting p (choice_bounds g choice) x drawn (subst (λ (v : ℕ). HoldsIncoming g ranges (record { variable = v; bounds = choice_bounds g choice })) (sym named) known.takes.0) in
+      let fits : StoreFits g ranges fitting (p, x) = in_bounds_fits g ranges fitting p (choice_bounds g choice) x drawn (subst (λ (v : ℕ). HoldsIncoming g ranges (record { variable = v; bounds = choice_bounds g choice })) (sym named) in_ranges.takes.0) in
       ap next (same_store g ranges fitting (p, x) d.state fits)) ∙
       ap (λ (r : OrFault Place). r >>= λ p. next (store h (p, x) d.state)) (same_place g ranges d.state clk target.variable target.index)

@@ -25,7 +25,7 @@ use Rattle.model_core.specs.Ranges.Incoming.{assigned, into_edge}
 use Rattle.model_core.specs.Ranges.Inductive.{Fitting, HoldsIncoming}
 use Rattle.range_infer.proofs.ModelWithRanges.{has_kind, same_value}
 use Rattle.range_infer.proofs.BoundsInHold.{left_alike, left_within, can_be_true, between}
-use Rattle.range_infer.proofs.NarrowModels.{truths_redeclared, EdgeKnown}
+use Rattle.range_infer.proofs.NarrowModels.{truths_redeclared, EdgeInRanges}
 use Rattle.range_infer.proofs.SameStores.{StoreFits, values_fit}
 
 module _ (g : EventGraph) (ranges : List VarRange) (fitting : Fitting g ranges) (keeps : KeepsParts g) where
@@ -78,12 +78,12 @@ module _ (g : EventGraph) (ranges : List VarRange) (fitting : Fitting g ranges) 
     taken_into : (e : EventEdge) → is_scheduling e.kind ≡ true → (bounds_under refined h.variables e.condition).can_true ≡ true → into_edge g h.variables e ≡ assigned (refined e.condition true h.variables) (vertex_at g e.target).parameters e.values
     taken_into e is can = ap₂ (λ (a b : Bool). cond (a && b) (assigned (refined e.condition true h.variables) (vertex_at g e.target).parameters e.values) []) is can
 
-    module _ (e : EventEdge) (known : EdgeKnown g ranges e) (taken : value_of g s clk e.condition ≡ Ok (number_of true)) where
+    module _ (e : EventEdge) (in_ranges : EdgeInRanges g ranges e) (taken : value_of g s clk e.condition ≡ Ok (number_of true)) where
       truths : TruthsAreDeclared h.variables
       truths = truths_redeclared g ranges keeps.variables fitting
 
       condition_kind : HasKind h.variables e.condition kinds.Truth
-      condition_kind = has_kind g.variables ranges e.condition kinds.Truth known.keeps.condition
+      condition_kind = has_kind g.variables ranges e.condition kinds.Truth in_ranges.keeps.condition
 
       taken_too : value_of h s clk e.condition ≡ Ok (number_of true)
       taken_too = sym (same_value g ranges s clk e.condition) ∙ taken
@@ -95,7 +95,7 @@ module _ (g : EventGraph) (ranges : List VarRange) (fitting : Fitting g ranges) 
       carried_fits : (parameters : List ℕ) (values : List ℤ) → CarriedFitKinds g.variables (length g.tables) (parameters_of g) parameters e.values → is_scheduling e.kind ≡ true → each (value_of g s clk) e.values ≡ Ok values → CarriedFits e.target values
       carried_fits parameters values carries is done =
           let into = taken_into e is (can_be_true h truths s inside clk early e.condition condition_kind taken_too) in
-          let takes = subst (AllByRecursion (HoldsIncoming g ranges)) into known.takes in
+          let takes = subst (AllByRecursion (HoldsIncoming g ranges)) into in_ranges.takes in
           let named = subst (λ (vs : List ℕ). AllByRecursion (HoldsIncoming g ranges) (assigned (refined e.condition true h.variables) vs e.values)) (scalars_named (vertex_at g e.target).parameters) takes in
           values_fit g ranges fitting s clk (refined e.condition true h.variables) values_between (map scalar (vertex_at g e.target).parameters) e.values carries.kinds values carries.given done named
 
@@ -103,14 +103,14 @@ module _ (g : EventGraph) (ranges : List VarRange) (fitting : Fitting g ranges) 
       act_fits seed (Schedule delay priority) p q is fits done =
           let (wait, at_delay, later) = bind_ok (delay_of g seed s clk delay p.taken) _ q done in
           let (values, at_values, end) = bind_ok (carried_values g s clk e) _ q later in
-          let carries : CarriedFitKinds g.variables (length g.tables) (parameters_of g) known.keeps.parameters e.values = subst (λ (k : EdgeKind). CarriesValues g.variables (length g.tables) (parameters_of g) k known.keeps.parameters e.values) is known.keeps.carries in
-          let new = carried_fits known.keeps.parameters values carries (ap is_scheduling is) at_values in
+          let carries : CarriedFitKinds g.variables (length g.tables) (parameters_of g) in_ranges.keeps.parameters e.values = subst (λ (k : EdgeKind). CarriesValues g.variables (length g.tables) (parameters_of g) k in_ranges.keeps.parameters e.values) is in_ranges.keeps.carries in
+          let new = carried_fits in_ranges.keeps.parameters values carries (ap is_scheduling is) at_values in
           let same : scheduled (clk + wait.ticks) priority e.target p.pending values ≡ q.pending = cc in
           subst (AllByRecursion EntryFits) same (every-append EntryFits p.pending (record { time = clk + wait.ticks; priority = priority; vertex = e.target; values = values }) fits new)
       act_fits seed Urgent p q is fits done =
           let (values, at_values, end) = bind_ok (carried_values g s clk e) _ q done in
-          let carries : CarriedFitKinds g.variables (length g.tables) (parameters_of g) known.keeps.parameters e.values = subst (λ (k : EdgeKind). CarriesValues g.variables (length g.tables) (parameters_of g) k known.keeps.parameters e.values) is known.keeps.carries in
-          let new = carried_fits known.keeps.parameters values carries (ap is_scheduling is) at_values in
+          let carries : CarriedFitKinds g.variables (length g.tables) (parameters_of g) in_ranges.keeps.parameters e.values = subst (λ (k : EdgeKind). CarriesValues g.variables (length g.tables) (parameters_of g) k in_ranges.keeps.parameters e.values) is in_ranges.keeps.carries in
+          let new = carried_fits in_ranges.keeps.parameters values carries (ap is_scheduling is) at_values in
           let same : scheduled clk 0 e.target p.pending values ≡ q.pending = cc in
           subst (AllByRecursion EntryFits) same (every-append EntryFits p.pending (record { time = clk; priority = 0; vertex = e.target; values = values }) fits new)
       act_fits seed CancelNext p q is fits done =
@@ -124,12 +124,12 @@ module _ (g : EventGraph) (ranges : List VarRange) (fitting : Fitting g ranges) 
           let same : without_all (is_of e.target) p.pending ≡ q.pending = cc in
           subst (AllByRecursion EntryFits) same (without_all-every EntryFits (is_of e.target) p.pending fits)
 
-    pub edge_fits : (seed : ℕ) (e : EventEdge) → EdgeKnown g ranges e → (p q : EdgeState) → PlannedFits p → treat_edge g seed s clk e p ≡ Ok q → PlannedFits q
-    edge_fits seed e known p q fits done =
+    pub edge_fits : (seed : ℕ) (e : EventEdge) → EdgeInRanges g ranges e → (p q : EdgeState) → PlannedFits p → treat_edge g seed s clk e p ≡ Ok q → PlannedFits q
+    edge_fits seed e in_ranges p q fits done =
         let (c, at_condition, later) = bind_ok (value_of g s clk e.condition) _ q done in
         tested c at_condition (is_one c) refl later
       where
         tested : (c : ℤ) → value_of g s clk e.condition ≡ Ok c → (b : Bool) → is_one c ≡ b → cond b (act g seed s clk e e.kind p) (Ok p) ≡ Ok q → PlannedFits q
         tested c at true one later =
-            act_fits e known (at ∙ ap (λ (c : ℤ). Ok c) (one_is_true c one)) seed e.kind p q refl fits later
+            act_fits e in_ranges (at ∙ ap (λ (c : ℤ). Ok c) (one_is_true c one)) seed e.kind p q refl fits later
         tested c at false one later = let same : p ≡ q = cc in subst PlannedFits same fits

@@ -23,8 +23,8 @@ data SideOfRange (lo hi x : ℤ) : Type 0 where
   under : x <ℤ lo → within lo hi x ≡ false → int_lt x lo ≡ true → SideOfRange lo hi x
   over : lo ≤ℤ x → hi <ℤ x → within lo hi x ≡ false → int_lt x lo ≡ false → SideOfRange lo hi x
 
-stands : (lo hi x : ℤ) → SideOfRange lo hi x
-stands lo hi x = by (int_lt x lo) (int_le lo x) (int_le x hi) refl refl refl where
+side_of_range : (lo hi x : ℤ) → SideOfRange lo hi x
+side_of_range lo hi x = by (int_lt x lo) (int_le lo x) (int_le x hi) refl refl refl where
   by : (a b c : Bool) → int_lt x lo ≡ a → int_le lo x ≡ b → int_le x hi ≡ c → SideOfRange lo hi x
   by true b c e f i = under (lt_of x lo e) (let no : int_le lo x ≡ false = grind (arith, ints) in ap (λ (t : Bool). t && int_le x hi) no) e
   by false false c e f i = absurd (omega (arith, ints, of_not_lt x lo e, of_not_le lo x f))
@@ -60,7 +60,7 @@ module _ (v : Variable) (r : VarRange) (ordered : r.lo ≤ℤ r.hi) (holds : Enc
   w = with_range v r
 
   pub same_kept : KeptLies v r x → kept v x ≡ kept w x
-  same_kept k = by (stands v.lo v.hi x) (stands r.lo r.hi x) where
+  same_kept k = by (side_of_range v.lo v.hi x) (side_of_range r.lo r.hi x) where
     by : SideOfRange v.lo v.hi x → SideOfRange r.lo r.hi x → kept v x ≡ kept w x
     by (inside a b e) (inside c d f) = kept_inside v x e ∙ sym (kept_inside w x f)
     by (inside a b e) (under c f i) =
@@ -97,7 +97,7 @@ of_met v b r clip h = subst (λ (c : Bool). IfSome (cond c (Some (record { lo = 
 
 module _ (v : Variable) (b : Bounds) (r : VarRange) (ordered : v.lo ≤ℤ v.hi) (x : ℤ) (lies : NumberIn b x) where
   pub kept_in_bounds : IfSome (kept_range v b) (Encloses r) → KeptLies v r x
-  kept_in_bounds h = record { lies = λ y done. by y (stands v.lo v.hi x) v.clip refl done } where
+  kept_in_bounds h = record { lies = λ y done. by y (side_of_range v.lo v.hi x) v.clip refl done } where
     by : (y : ℤ) → SideOfRange v.lo v.hi x → (clip : Bool) → v.clip ≡ clip → kept v x ≡ Ok y → LiesIn r y
     by y (inside a c e) true clip done =
         let same : x ≡ y = (let d = kept_inside v x e in cc) in
@@ -117,7 +117,7 @@ module _ (v : Variable) (b : Bounds) (r : VarRange) (ordered : v.lo ≤ℤ v.hi)
 
 -- what is kept lies in the declared range
 pub kept_as_declared : (v : Variable) (x : ℤ) → v.lo ≤ℤ v.hi → KeptLies v (declared_range v) x
-kept_as_declared v x ordered = record { lies = λ y done. by y (stands v.lo v.hi x) done } where
+kept_as_declared v x ordered = record { lies = λ y done. by y (side_of_range v.lo v.hi x) done } where
   by : (y : ℤ) → SideOfRange v.lo v.hi x → kept v x ≡ Ok y → LiesIn (declared_range v) y
   by y (inside a c e) done =
       let same : x ≡ y = (let d = kept_inside v x e in cc) in subst (LiesIn (declared_range v)) same (record { low = a; high = c })

@@ -62,25 +62,25 @@ module _ (moved : List Bool) where
   either true old other new changed first second = first
   either false old other new changed first second = second
 
-  pub known : (e : Expression) (b : Bool) (old new : List Variable) → StayElsewhere old new → Unmoved (variables_in e) → StayElsewhere (refined e b old) (refined e b new)
-  known (Not a) b old new stay still = known a (not b) old new stay still
-  known (Binary op left right) b old new stay still =
+  pub refined_stays : (e : Expression) (b : Bool) (old new : List Variable) → StayElsewhere old new → Unmoved (variables_in e) → StayElsewhere (refined e b old) (refined e b new)
+  refined_stays (Not a) b old new stay still = refined_stays a (not b) old new stay still
+  refined_stays (Binary op left right) b old new stay still =
       let first = every-front (λ v. is_moved moved v ≡ false) (variables_in left) (variables_in right) still in
       let second = every-after (λ v. is_moved moved v ≡ false) (variables_in left) (variables_in right) still in
       either (refines_both op b) (refined right b (refined left b old)) (ranges_refined_by op left right b old) (refined right b (refined left b new)) (ranges_refined_by op left right b new)
-      (known right b (refined left b old) (refined left b new) (known left b old new stay first) second) (compared op left right b old new stay first)
-  known (Number n) b old new stay still = stay
-  known (Truth t) b old new stay still = stay
-  known Clock b old new stay still = stay
-  known (Scalar v) b old new stay still = stay
-  known (Cell v e) b old new stay still = stay
-  known (Negative a) b old new stay still = stay
-  known (If c x y) b old new stay still = stay
+      (refined_stays right b (refined left b old) (refined left b new) (refined_stays left b old new stay first) second) (compared op left right b old new stay first)
+  refined_stays (Number n) b old new stay still = stay
+  refined_stays (Truth t) b old new stay still = stay
+  refined_stays Clock b old new stay still = stay
+  refined_stays (Scalar v) b old new stay still = stay
+  refined_stays (Cell v e) b old new stay still = stay
+  refined_stays (Negative a) b old new stay still = stay
+  refined_stays (If c x y) b old new stay still = stay
 
-  known_beside : (op : Operator) (a : Expression) (old new : List Variable) → StayElsewhere old new → Unmoved (variables_in a) → StayElsewhere (beside refined op a old) (beside refined op a new)
-  known_beside And a old new stay still = known a true old new stay still
-  known_beside Or a old new stay still = known a false old new stay still
-  known_beside op a old new stay still = stay
+  beside_stays : (op : Operator) (a : Expression) (old new : List Variable) → StayElsewhere old new → Unmoved (variables_in a) → StayElsewhere (beside refined op a old) (beside refined op a new)
+  beside_stays And a old new stay still = refined_stays a true old new stay still
+  beside_stays Or a old new stay still = refined_stays a false old new stay still
+  beside_stays op a old new stay still = stay
 
   -- ---- the bounds of an expression
 
@@ -95,11 +95,11 @@ module _ (moved : List Bool) where
   bounds_stay (Binary op a b) old new stay still =
       let first = every-front (λ v. is_moved moved v ≡ false) (variables_in a) (variables_in b) still in
       let second = every-after (λ v. is_moved moved v ≡ false) (variables_in a) (variables_in b) still in
-      ap₂ (operator_bounds op) (bounds_stay a old new stay first) (bounds_stay b (beside refined op a old) (beside refined op a new) (known_beside op a old new stay first) second)
+      ap₂ (operator_bounds op) (bounds_stay a old new stay first) (bounds_stay b (beside refined op a old) (beside refined op a new) (beside_stays op a old new stay first) second)
   bounds_stay (If c a b) old new stay still =
       let both = every-front (λ v. is_moved moved v ≡ false) (variables_in c ++ variables_in a) (variables_in b) still in
       let test = every-front (λ v. is_moved moved v ≡ false) (variables_in c) (variables_in a) both in
-      let yes = bounds_stay a (refined c true old) (refined c true new) (known c true old new stay test) (every-after (λ v. is_moved moved v ≡ false) (variables_in c) (variables_in a) both) in
-      let no = bounds_stay b (refined c false old) (refined c false new) (known c false old new stay test) (every-after (λ v. is_moved moved v ≡ false) (variables_in c ++ variables_in a) (variables_in b) still) in
+      let yes = bounds_stay a (refined c true old) (refined c true new) (refined_stays c true old new stay test) (every-after (λ v. is_moved moved v ≡ false) (variables_in c) (variables_in a) both) in
+      let no = bounds_stay b (refined c false old) (refined c false new) (refined_stays c false old new stay test) (every-after (λ v. is_moved moved v ≡ false) (variables_in c ++ variables_in a) (variables_in b) still) in
       ap₂ (λ (x y : Bounds). chosen_bounds x y (bounds_under refined (refined c false old) b)) (bounds_stay c old new stay test) yes
       ∙ ap (chosen_bounds (bounds_under refined new c) (bounds_under refined (refined c true new) a)) no

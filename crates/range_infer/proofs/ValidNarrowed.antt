@@ -23,7 +23,7 @@ use Rattle.range_infer.proofs.ModelWithRanges.{is_variable, has_kind, as_many_va
 -- ---- variables
 
 -- what is known of a range and of the variable that it is for
-record RangeKnown (v : Variable) (r : VarRange) : Type 0 where
+record DeclarableRange (v : Variable) (r : VarRange) : Type 0 where
   ordered : r.lo ≤ℤ r.hi
   inside : Encloses (declared_range v) r
   begins : LiesIn r v.initial
@@ -32,39 +32,39 @@ record RangeKnown (v : Variable) (r : VarRange) : Type 0 where
 between_literals : (a b x : ℤ) → IsLiteral a → IsLiteral b → a ≤ℤ x → x ≤ℤ b → IsLiteral x
 between_literals a b x i j low high = record { least = omega (arith, ints, i.least); greatest = omega (arith, ints, j.greatest) }
 
-of_kind : (k : Kind) (v : Variable) (r : VarRange) → v.kind ≡ k → RangeKnown v r → FitsKind k v → FitsKind k (with_range v r)
-of_kind kinds.Truth v r is known fits =
-    let same = known.truth is in
+of_kind : (k : Kind) (v : Variable) (r : VarRange) → v.kind ≡ k → DeclarableRange v r → FitsKind k v → FitsKind k (with_range v r)
+of_kind kinds.Truth v r is declarable fits =
+    let same = declarable.truth is in
     record { least = ap (λ (r : VarRange). r.lo) same ∙ fits.least; greatest = ap (λ (r : VarRange). r.hi) same ∙ fits.greatest; exact = fits.exact }
-of_kind kinds.Range v r is known fits = record {
-  least = between_literals v.lo v.hi r.lo fits.least fits.greatest known.inside.low (omega (arith, ints, known.ordered, known.inside.high));
-  greatest = between_literals v.lo v.hi r.hi fits.least fits.greatest (omega (arith, ints, known.ordered, known.inside.low)) known.inside.high;
+of_kind kinds.Range v r is declarable fits = record {
+  least = between_literals v.lo v.hi r.lo fits.least fits.greatest declarable.inside.low (omega (arith, ints, declarable.ordered, declarable.inside.high));
+  greatest = between_literals v.lo v.hi r.hi fits.least fits.greatest (omega (arith, ints, declarable.ordered, declarable.inside.low)) declarable.inside.high;
   start = fits.start;
-  ordered = known.ordered;
+  ordered = declarable.ordered;
 }
 
-variable_keeps : (v : Variable) (r : VarRange) → RangeKnown v r → KeepsVariable v → KeepsVariable (with_range v r)
-variable_keeps v r known k = record { name = k.name; size = k.size; range = of_kind v.kind v r refl known k.range; from_lo = known.begins.low; to_hi = known.begins.high }
+variable_keeps : (v : Variable) (r : VarRange) → DeclarableRange v r → KeepsVariable v → KeepsVariable (with_range v r)
+variable_keeps v r declarable k = record { name = k.name; size = k.size; range = of_kind v.kind v r refl declarable k.range; from_lo = declarable.begins.low; to_hi = declarable.begins.high }
 
 literal_signed : (x : ℤ) → IsLiteral x → IsSigned x
 literal_signed (pos n) i = let most = i.greatest in omega (arith, ints, most)
 literal_signed (negsuc n) i = let least = i.least in omega (arith, ints, least)
 
-written_range : (k : Kind) (v : Variable) (r : VarRange) → v.kind ≡ k → RangeKnown v r → FitsKind k v → HasWrittenRange v k → HasWrittenRange (with_range v r) k
-written_range kinds.Truth v r is known fits h =
-    let same = known.truth is in
+written_range : (k : Kind) (v : Variable) (r : VarRange) → v.kind ≡ k → DeclarableRange v r → FitsKind k v → HasWrittenRange v k → HasWrittenRange (with_range v r) k
+written_range kinds.Truth v r is declarable fits h =
+    let same = declarable.truth is in
     (ap (λ (r : VarRange). r.lo) same ∙ h.0, ap (λ (r : VarRange). r.hi) same ∙ h.1, h.2)
-written_range kinds.Range v r is known fits h =
-    let k = of_kind kinds.Range v r is known fits in (literal_signed r.lo k.least, literal_signed r.hi k.greatest)
+written_range kinds.Range v r is declarable fits h =
+    let k = of_kind kinds.Range v r is declarable fits in (literal_signed r.lo k.least, literal_signed r.hi k.greatest)
 
-variable_written : (v : Variable) (r : VarRange) → RangeKnown v r → KeepsVariable v → SpellableVariable v → SpellableVariable (with_range v r)
-variable_written v r known keeps s = record { name = s.name; size = s.size; range = written_range v.kind v r refl known keeps.range s.range; initial = s.initial }
+variable_written : (v : Variable) (r : VarRange) → DeclarableRange v r → KeepsVariable v → SpellableVariable v → SpellableVariable (with_range v r)
+variable_written v r declarable keeps s = record { name = s.name; size = s.size; range = written_range v.kind v r refl declarable keeps.range s.range; initial = s.initial }
 
 -- a fact of each variable with its range
-each_ranged : (P Q : Variable → Type 0) → ((v : Variable) (r : VarRange) → RangeKnown v r → P v → Q (with_range v r)) → (vs : List Variable) (rs : List VarRange) → length rs ≡ length vs → ((k : ℕ) → k < length vs → RangeKnown (slice_index_or vs k no_variable) (range_at rs k)) → AllByRecursion P vs → AllByRecursion Q (with_ranges vs rs)
-each_ranged P Q f [] rs e known all = tt
-each_ranged P Q f (v ∷ vs) [] e known all = absurd (omega arith)
-each_ranged P Q f (v ∷ vs) (r ∷ rs) e known (p, all) = (f v r (known 0 (omega arith)) p, each_ranged P Q f vs rs (omega arith) (λ k small. known (suc k) (omega arith)) all)
+each_ranged : (P Q : Variable → Type 0) → ((v : Variable) (r : VarRange) → DeclarableRange v r → P v → Q (with_range v r)) → (vs : List Variable) (rs : List VarRange) → length rs ≡ length vs → ((k : ℕ) → k < length vs → DeclarableRange (slice_index_or vs k no_variable) (range_at rs k)) → AllByRecursion P vs → AllByRecursion Q (with_ranges vs rs)
+each_ranged P Q f [] rs e declarable all = tt
+each_ranged P Q f (v ∷ vs) [] e declarable all = absurd (omega arith)
+each_ranged P Q f (v ∷ vs) (r ∷ rs) e declarable (p, all) = (f v r (declarable 0 (omega arith)) p, each_ranged P Q f vs rs (omega arith) (λ k small. declarable (suc k) (omega arith)) all)
 
 names_same : (vs : List Variable) (rs : List VarRange) → map (λ (v : Variable). v.name) vs ≡ map (λ (v : Variable). v.name) (with_ranges vs rs)
 names_same [] rs = refl
@@ -153,8 +153,8 @@ module _ (g : EventGraph) (ranges : List VarRange) (fitting : Fitting g ranges) 
   many : length h.variables ≡ length g.variables
   many = as_many_variables g.variables ranges
 
-  known : (k : ℕ) → k < length g.variables → RangeKnown (variable_at g k) (range_at ranges k)
-  known k small =
+  declarable : (k : ℕ) → k < length g.variables → DeclarableRange (variable_at g k) (range_at ranges k)
+  declarable k small =
       let f = fitting.each k small in
       record { ordered = f.ordered; inside = f.inside; begins = begins k small; truth = λ is. f.fixed (truth_fixed g k is) }
 
@@ -162,7 +162,7 @@ module _ (g : EventGraph) (ranges : List VarRange) (fitting : Fitting g ranges) 
   parts_keep k = record {
     name = k.name;
     declared_once = subst (λ (ns : List (List ℕ)). IsDistinct same_bytes (ns ++ map (λ (t : WeightTable). t.name) g.tables ++ map (λ (v : EventVertex). v.name) g.vertices)) (names_same g.variables ranges) k.declared_once;
-    variables = each_ranged KeepsVariable KeepsVariable variable_keeps g.variables ranges fitting.as_many known k.variables;
+    variables = each_ranged KeepsVariable KeepsVariable variable_keeps g.variables ranges fitting.as_many declarable k.variables;
     few_variables = subst (λ (n : ℕ). n ≤ VARIABLES_MAX) (sym many) k.few_variables;
     tables = k.tables;
     few_tables = k.few_tables;
@@ -181,7 +181,7 @@ module _ (g : EventGraph) (ranges : List VarRange) (fitting : Fitting g ranges) 
   pub narrowed_spellable : KeepsParts g → IsSpellable g → IsSpellable h
   narrowed_spellable k s = record {
     name = s.name;
-    variables = each_ranged (λ v. KeepsVariable v × SpellableVariable v) SpellableVariable (λ v r known both. variable_written v r known both.0 both.1) g.variables ranges fitting.as_many known (every-both KeepsVariable SpellableVariable (λ v. KeepsVariable v × SpellableVariable v) (λ v keeps written. (keeps, written)) g.variables k.variables s.variables);
+    variables = each_ranged (λ v. KeepsVariable v × SpellableVariable v) SpellableVariable (λ v r declarable both. variable_written v r declarable both.0 both.1) g.variables ranges fitting.as_many declarable (every-both KeepsVariable SpellableVariable (λ v. KeepsVariable v × SpellableVariable v) (λ v keeps written. (keeps, written)) g.variables k.variables s.variables);
     tables = s.tables;
     watch = subst (λ (x : Extent). AllByRecursion (SpellableWatched x) g.watch) extent_same s.watch;
     has_vertex = s.has_vertex;

@@ -1,2 +1,2 @@
-pub mod ToldOfRanges
+pub mod RangeVerdicts
 pub mod Inner

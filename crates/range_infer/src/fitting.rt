@@ -11,7 +11,7 @@ ghost use Rattle.range_infer.specs.Inner.RangeTests.{range_fits};
 use crate::keeping::declared_range;
 use model_core::{Kind, Model, Var, VarRange};
 
-fn stands_in(vars: &[usize], var: usize) -> bool
+fn is_among(vars: &[usize], var: usize) -> bool
     ensures { result ≡ list_any (λ p. p == var) vars.now }
 {
     for other in vars {
@@ -35,7 +35,7 @@ fn holds_truths(model: &Model, var: usize) -> bool
 pub(crate) fn is_fixed(model: &Model, var: usize) -> bool
     ensures { result ≡ is_fixed (graph_of model.now) var }
 {
-    holds_truths(model, var) || stands_in(model.parameters_at(0), var)
+    holds_truths(model, var) || is_among(model.parameters_at(0), var)
 }
 
 /// Whether a variable whose declared range may change or not may have this range.

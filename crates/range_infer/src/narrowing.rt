@@ -8,7 +8,7 @@ ghost use Rattle.model_core.specs.Ranges.OtherRanges.{declared_range, with_range
 ghost use Rattle.model_core.specs.Static.Reading.{IsValid};
 ghost use Rattle.model_core.specs.Ranges.Narrowed.{with_ranges_if_short, IsNarrowed};
 ghost use Rattle.model_core.specs.Ranges.Inductive.{Inductive};
-ghost use Rattle.range_infer.specs.ToldOfRanges.{MayNarrow, NarrowRefused};
+ghost use Rattle.range_infer.specs.RangeVerdicts.{MayNarrow, NarrowRefused};
 
 use crate::checking::check_ranges;
 use crate::inferring::infer;

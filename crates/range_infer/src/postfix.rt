@@ -6,7 +6,7 @@ ghost use Rattle.std.specs.Prelude.{◌≡◌, [], ◌∷◌, ◌++◌, not, Non
 ghost use Rattle.std.specs.Option.{option_map};
 ghost use Rattle.model_core.specs.Code.Views.{expression_of, operator_of};
 ghost use Rattle.model_core.specs.Rules.Exclusive.{number_literal};
-ghost use Rattle.range_infer.specs.Inner.Postfix.{number_items, literal_items, compared_items, left_items, tells_both, left_by, with_right, postfix_of, is_of_ranges};
+ghost use Rattle.range_infer.specs.Inner.Postfix.{number_items, literal_items, compared_items, left_items, refines_both_where, left_by, with_right, postfix_of, is_of_ranges};
 
 use crate::refinement::{comparison_where, guard_of, refines_both};
 use model_core::{Expr, Op};
@@ -163,8 +163,8 @@ fn add_left_by(
 }
 
 /// Whether both operands are known by the value that an operator's result is known to have.
-fn tells_both(op: Op, value: Option<bool>) -> bool
-    ensures { result ≡ tells_both (operator_of op) value }
+fn refines_both_where(op: Op, value: Option<bool>) -> bool
+    ensures { result ≡ refines_both_where (operator_of op) value }
 {
     match value {
         None => false,
@@ -252,7 +252,7 @@ fn add_postfix(
         Expr::Neg(a) => add_operand(items, a, None, PostfixItem::Negated),
         Expr::Not(a) => add_operand(items, a, opposite_value(value), PostfixItem::Opposite),
         Expr::Binary(op, first, second) => {
-            if tells_both(*op, value) {
+            if refines_both_where(*op, value) {
                 add_postfix(items, first, value)?;
                 return add_operand(items, second, value, PostfixItem::Operator(*op));
             }

@@ -24,7 +24,7 @@ use sig_base::NoMemory;
 
 /// Keeps the bounds of the operand before this one. Gives those of this one.
 #[inline(always)]
-fn behind(before: &mut Vec<Bounds>, last: Bounds, next: Bounds) -> Result<Bounds, NoMemory>
+fn next_operand(before: &mut Vec<Bounds>, last: Bounds, next: Bounds) -> Result<Bounds, NoMemory>
     ensures { IfOk result
         (λ b. b ∷ reverse before.new.items ≡ next ∷ last ∷ reverse before.old.items) }
 {
@@ -75,10 +75,10 @@ fn after_item(
             Ok(operator_bounds(op, &last, &second))
         }
         PostfixItem::Operator(op) => Ok(operated(before, op, last)),
-        PostfixItem::Variable(var) => behind(before, last, variable_bounds(left, var, true)),
-        PostfixItem::Number(n) => behind(before, last, number_bounds(n, n, true)),
-        PostfixItem::Truth(b) => behind(before, last, truth_bounds(!b, b, true)),
-        PostfixItem::Clock => behind(before, last, number_bounds(0, 1 << 48, true)),
+        PostfixItem::Variable(var) => next_operand(before, last, variable_bounds(left, var, true)),
+        PostfixItem::Number(n) => next_operand(before, last, number_bounds(n, n, true)),
+        PostfixItem::Truth(b) => next_operand(before, last, truth_bounds(!b, b, true)),
+        PostfixItem::Clock => next_operand(before, last, number_bounds(0, 1 << 48, true)),
         PostfixItem::CellOf(var) => {
             let quiet = quiet_index(left.model, var, &last);
             Ok(variable_bounds(left, var, quiet))

@@ -57,9 +57,9 @@ left_items (Not a) b = left_items a (not b)
 left_items (Binary op a c) b = cond (refines_both op b) (left_items a b ++ left_items c b) (compared_items op a c b)
 left_items e b = []
 
-abbrev pub tells_both : Operator → Option Bool → Bool
-tells_both op None = false
-tells_both op (Some b) = refines_both op b
+abbrev pub refines_both_where : Operator → Option Bool → Bool
+refines_both_where op None = false
+refines_both_where op (Some b) = refines_both op b
 
 abbrev pub left_by : Operator → Expression → Expression → Option Bool → List PostfixItem
 left_by op a c None = []
@@ -89,7 +89,7 @@ postfix_of (Cell v e) m = postfix_of e None ++ items.CellOf v ∷ []
 postfix_of (Negative a) m = postfix_of a None ++ items.Negated ∷ []
 postfix_of (Not a) m = postfix_of a (option_map not m) ++ items.Opposite ∷ []
 postfix_of (Binary op a c) m =
-    cond (tells_both op m) (postfix_of a m ++ (postfix_of c m ++ items.Operator (op_of op) ∷ []))
+    cond (refines_both_where op m) (postfix_of a m ++ (postfix_of c m ++ items.Operator (op_of op) ∷ []))
     (with_operands (guard_of op) op c (postfix_of a) (postfix_of c) ++ left_by op a c m)
 postfix_of (If c a b) m =
     items.Kept ∷ (postfix_of c (Some true) ++ (postfix_of a None ++ (items.PutBack ∷ items.Kept ∷ []) ++ (left_items c false ++ (postfix_of b None ++ items.PutBack ∷ items.Chosen ∷ []))))

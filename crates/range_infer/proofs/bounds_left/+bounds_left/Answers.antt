@@ -4,7 +4,7 @@ use Rattle.std.proofs.lemmas.Result.{on_ok_weaker}
 use Rattle.model_core.specs.Code.Views.{expression_of, operator_of}
 use Rattle.model_core.specs.Ranges.Refined.{refined}
 use Rattle.range_infer.specs.Inner.RangesLeft.{variables_left}
-use Rattle.range_infer.proofs.GuardsBeside.{beside_untold, beside_told}
+use Rattle.range_infer.proofs.GuardsBeside.{beside-no_guard, beside-guard}
 use Rattle.range_infer.proofs.RestoredRanges.{same_variables, stays-trans, stays-back, back-trans}
 use Rattle.range_infer.proofs.bounds_left.+bounds_left.Goals as goal
 
@@ -12,13 +12,13 @@ pub bounds_beside-returns-in-None-clause-left : goal.bounds_beside-returns-in-No
 bounds_beside-returns-in-None-clause-left t c =
     let first = c.args.left.now in
     on_ok_weaker c.operand_left.result
-    (λ stays. same_variables first c.operand_left.new.left stays ∙ sym (beside_untold (operator_of c.args.op) (expression_of c.args.first.now) (variables_left first) (sym c.guard_of.ensures ∙ c.in-None.is)))
+    (λ stays. same_variables first c.operand_left.new.left stays ∙ sym (beside-no_guard (operator_of c.args.op) (expression_of c.args.first.now) (variables_left first) (sym c.guard_of.ensures ∙ c.in-None.is)))
     c.operand_left.ensures.left
 
 pub bounds_beside-returns-in-Some-clause-left : goal.bounds_beside-returns-in-Some-clause-left
 bounds_beside-returns-in-Some-clause-left t c =
     on_ok_weaker c.bounds_where.result
-    (λ is. is ∙ sym (beside_told (operator_of c.args.op) c.in-Some.value (expression_of c.args.first.now) (variables_left c.args.left.now) (sym c.guard_of.ensures ∙ c.in-Some.is)))
+    (λ is. is ∙ sym (beside-guard (operator_of c.args.op) c.in-Some.value (expression_of c.args.first.now) (variables_left c.args.left.now) (sym c.guard_of.ensures ∙ c.in-Some.is)))
     c.bounds_where.ensures.left
 
 pub any_bounds_left-returns-in_ok-b-in-If-clause-left : goal.any_bounds_left-returns-in_ok-b-in-If-clause-left

@@ -3,7 +3,7 @@ use Rattle.std.proofs.Common.{subst, arith}
 use Rattle.std.proofs.lemmas.Grind.{common_steps}
 use Rattle.model_core.specs.Code.Views.{graph_of}
 use Rattle.model_core.specs.Ranges.Inductive.{Fitting, Inductive}
-use Rattle.range_infer.specs.ToldOfRanges.{FailsFirst, VerdictHolds, unfit, left}
+use Rattle.range_infer.specs.RangeVerdicts.{FailsFirst, VerdictHolds, unfit, left}
 use Rattle.range_infer.proofs.Declared.{fails_not_inductive, may_narrow, no_room}
 use Rattle.range_infer.proofs.narrowing.narrow.Goals as goal
 
@@ -20,15 +20,15 @@ returns-in-Fails-clause-refused c =
 pub returns-then-branch-clause-done : goal.returns-then-branch-clause-done
 returns-then-branch-clause-done c =
     let g = graph_of c.args.model.now in
-    let told : Fitting g c.args.ranges.now × Inductive g c.args.ranges.now = subst (VerdictHolds g c.args.ranges.now) c.in-Inductive.is c.in_ok-check_ranges.ensures in
+    let both : Fitting g c.args.ranges.now × Inductive g c.args.ranges.now = subst (VerdictHolds g c.args.ranges.now) c.in-Inductive.is c.in_ok-check_ranges.ensures in
     let made = c.in_ok-redeclare_if_short.ensures in
-    may_narrow g (graph_of c.redeclare_if_short.new.model) c.args.ranges.now c.as_slice.result.now told.0 told.1 c.as_slice.ensures c.in_ok-redeclare_if_short.field-0 made.value made.model c.if-branch.true
+    may_narrow g (graph_of c.redeclare_if_short.new.model) c.args.ranges.now c.as_slice.result.now both.0 both.1 c.as_slice.ensures c.in_ok-redeclare_if_short.field-0 made.value made.model c.if-branch.true
 
 pub returns-else-branch-clause-refused : goal.returns-else-branch-clause-refused
 returns-else-branch-clause-refused c =
     let g = graph_of c.args.model.now in
-    let told : Fitting g c.args.ranges.now × Inductive g c.args.ranges.now = subst (VerdictHolds g c.args.ranges.now) c.in-Inductive.is c.in_ok-check_ranges.ensures in
-    no_room g (graph_of c.redeclare_if_short.new.model) c.args.ranges.now c.as_slice.result.now told.0 told.1 c.as_slice.ensures c.in_ok-redeclare_if_short.field-0 c.in_ok-redeclare_if_short.ensures.value c.if-branch.false
+    let both : Fitting g c.args.ranges.now × Inductive g c.args.ranges.now = subst (VerdictHolds g c.args.ranges.now) c.in-Inductive.is c.in_ok-check_ranges.ensures in
+    no_room g (graph_of c.redeclare_if_short.new.model) c.args.ranges.now c.as_slice.result.now both.0 both.1 c.as_slice.ensures c.in_ok-redeclare_if_short.field-0 c.in_ok-redeclare_if_short.ensures.value c.if-branch.false
 
 pub returns-in_err-check_ranges-clause-refused : goal.returns-in_err-check_ranges-clause-refused
 returns-in_err-check_ranges-clause-refused c = grind (arith, common_steps)

@@ -20,7 +20,7 @@ loop-item-init c =
     let w : Walk = record { ranges = variables_left first; kept = []; found = c.number_bounds-last.result ∷ reverse c.args.before.now.items } in
     record {
       found = refl;
-      stands = subst (λ (ns : List ℕ). LeftOnWalk first first ns w) (sym (ap reverse c.requires)) (begins first first w (itself first) refl refl);
+      on_walk = subst (λ (ns : List ℕ). LeftOnWalk first first ns w) (sym (ap reverse c.requires)) (begins first first w (itself first) refl refl);
     }
 
 pub loop-item-preserved : goal.loop-item-preserved
@@ -32,13 +32,13 @@ loop-item-preserved c =
     let d : PostfixItem = items.Number (pos 0) in
     let now = c.loop-item in
     let next = c.if-is_of_ranges in
-    let known = now.invariant in
+    let so_far = now.invariant in
     elim next.branch [
       | then-is_of_ranges+in_ok-ranges_after t ↦
-          let more = ranges_more first w xs i d c.loop-item-test.true now.left now.before.items now.kept.items now.last known (sym c.is_of_ranges.ensures ∙ t.if-is_of_ranges.true) t.ranges_after.new.left t.ranges_after.new.kept.items t.in_ok-ranges_after.ensures in
+          let more = ranges_more first w xs i d c.loop-item-test.true now.left now.before.items now.kept.items now.last so_far (sym c.is_of_ranges.ensures ∙ t.if-is_of_ranges.true) t.ranges_after.new.left t.ranges_after.new.kept.items t.in_ok-ranges_after.ensures in
           same_walk first (walk w (take (i + 1) xs)) t.ranges_after.new.left next.left now.before.items next.before.items t.ranges_after.new.kept.items next.kept.items now.last next.last (sym t.left-is) (sym (ap (λ (v : Vec Bounds Global). v.items) t.before-is)) (sym (ap (λ (v : Vec ℕ Global). v.items) t.kept-is)) (sym t.last-is) more
       | else-is_of_ranges+in_ok-last t ↦
-          let more = operand_more first w xs i d c.loop-item-test.true now.left now.before.items now.kept.items now.last known (sym c.is_of_ranges.ensures ∙ t.if-is_of_ranges.false) t.after_item.new.before.items t.in_ok-last.last t.in_ok-last.ensures in
+          let more = operand_more first w xs i d c.loop-item-test.true now.left now.before.items now.kept.items now.last so_far (sym c.is_of_ranges.ensures ∙ t.if-is_of_ranges.false) t.after_item.new.before.items t.in_ok-last.last t.in_ok-last.ensures in
           same_walk first (walk w (take (i + 1) xs)) now.left next.left t.after_item.new.before.items next.before.items now.kept.items next.kept.items t.in_ok-last.last next.last (sym t.left-is) (sym (ap (λ (v : Vec Bounds Global). v.items) t.before-is)) (sym (ap (λ (v : Vec ℕ Global). v.items) t.kept-is)) (sym t.last-is) more
     ]
 
@@ -51,4 +51,4 @@ returns-clause-found c = λ e are.
     (c.loop-item.invariant.found ∙ ap (λ (xs : List PostfixItem). (fold walked w xs).found) (take_all c.loop-item.item-index c.args.items.now c.loop-item-test.false))
 
 pub returns-clause-back : goal.returns-clause-back
-returns-clause-back c = all-back c.args.left.now c.loop-item.left (reverse c.loop-item.kept.items) _ c.loop-item.invariant.stands.kept
+returns-clause-back c = all-back c.args.left.now c.loop-item.left (reverse c.loop-item.kept.items) _ c.loop-item.invariant.on_walk.kept
