@@ -3,19 +3,19 @@
 ghost use Rattle.std.specs.Prelude.{◌≡◌, ◌≤◌, ℕ, length, IfOk};
 ghost use Rattle.model_core.specs.Static.Reading.{Reads};
 ghost use Rattle.model_core.specs.Code.Views.{graph_of};
-ghost use Rattle.answer_delivery.specs.declared.complaint.Complaint.{Complaint};
 ghost use Rattle.answer_delivery.specs.Complaints.{IsComplaint};
 
 use crate::reading_error::ReadingError;
 use crate::written_reading::read_as_written;
+use answer_delivery::Complaint;
 use model_core::Model;
 use model_lex::pieces;
-use one_pass::{NotRead, read_model};
+use one_pass::{OnePassError, read_model};
 use sig_base::TEXT_MAX;
 use std::alloc::Global;
 
-/// The model that the text reads as. It is read in one pass. A text that isn't read so is looked at again, for what is
-/// wrong with it.
+/// The model that the text reads as. It is read in one pass, which also finds the first broken rule. Any other text is read
+/// again, for what is wrong with it.
 pub fn model_of(alloc: Global, text: &[u8]) -> Result<Model, ReadingError>
     requires { length text.now ≤ TEXT_MAX }
     ensures ok { IfOk result (λ model. Reads text.now (graph_of model)) }
@@ -25,7 +25,11 @@ pub fn model_of(alloc: Global, text: &[u8]) -> Result<Model, ReadingError>
     let pieces = pieces(alloc, text)?;
     match read_model(alloc, &pieces) {
         Ok(model) => Ok(model),
-        Err(NotRead::NoMemory) => Err(ReadingError::NoMemory),
-        Err(NotRead::Unsure) => read_as_written(alloc, &pieces),
+        Err(OnePassError::Fault { kind, at }) => Err(ReadingError::At {
+            what: Complaint::Static(kind),
+            at,
+        }),
+        Err(OnePassError::NoMemory) => Err(ReadingError::NoMemory),
+        Err(OnePassError::Unsure) => read_as_written(alloc, &pieces),
     }
 }

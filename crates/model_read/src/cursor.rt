@@ -90,6 +90,16 @@ impl<'t> Cursor<'t> {
         Cursor::new(pieces.text, pieces_from(pieces.list.as_slice(), from))
     }
 
+    /// The same tokens, to be read again.
+    pub fn again(&self) -> Cursor<'t>
+        ensures { result ≡ self.now }
+    {
+        Cursor {
+            text: self.text,
+            tokens: self.tokens,
+        }
+    }
+
     /// The byte at which the next token begins, or where none is left the number `end`.
     pub fn place(&self, end: usize) -> usize
         ensures { (text : List ℕ) → end ≡ length text → result ≡ wrong_place text self.now }

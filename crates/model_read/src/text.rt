@@ -1,6 +1,6 @@
 //! Reads a whole model text, and the text that pieces begin with.
 
-ghost use Rattle.std.specs.Prelude.{◌≡◌, ℕ, ◌≤◌, List, None, Some, length, drop, IfOk};
+ghost use Rattle.std.specs.Prelude.{◌≡◌, ℕ, ◌≤◌, List, [], None, Some, length, drop, IfOk};
 ghost use Rattle.sig_base.specs.declared.limits.TheConstants.{OPENINGS_MAX};
 ghost use Rattle.std.specs.Option.{option_map};
 ghost use Rattle.model_core.specs.Code.WrittenViews.{written_number, written_model};
@@ -69,8 +69,9 @@ fn version_number(version: Option<RawVersion>) -> Option<RawNumber>
 /// Reads what comes before the vertices of a model. The model that it gives has no vertices, and ends at byte 0.
 #[tactic(auto, unfolding(crate::specs::Beginnings::model_beginning))]
 pub fn read_model_beginning(alloc: Global, cursor: &mut Cursor<'_>) -> Result<RawModel, Stop>
-    ensures { Returned (λ m. with_vertices (written_model m)) result cursor.new
+    ensures reads { Returned (λ m. with_vertices (written_model m)) result cursor.new
         (language_reader model_beginning cursor.old) }
+    ensures no_vertices { IfOk result (λ m. m.vertices ≡ []) }
 {
     let version = version(cursor)?;
     let model = cursor.word(Word::Model)?;

@@ -1,16 +1,20 @@
-//! Changes, which are checked as they are read. Where a change breaks a static rule these functions give up.
+//! Changes, which are checked as they are read. Where a change breaks a static rule these functions give up, but for the last
+//! one, which reports the rule.
 
-ghost use Rattle.std.specs.Prelude.{◌≡◌, ◌+◌, ◌≤◌, [], ◌∷◌, length, map, IfOk};
-ghost use Rattle.sig_base.specs.declared.limits.TheConstants.{TARGETS_MAX};
+ghost use Rattle.std.specs.Prelude.{◌≡◌, ◌+◌, ◌≤◌, Bool, cond, [], ◌∷◌, length, map, IfOk};
+ghost use Rattle.sig_base.specs.declared.limits.TheConstants.{TARGETS_MAX, TARGETS_MAX_VERSION_1};
 ghost use Rattle.model_core.specs.Code.Views.{location_of, choice_of, change_of};
+ghost use Rattle.model_core.specs.Code.WrittenViews.{written_change};
 ghost use Rattle.model_core.specs.Text.Format.{separated};
 ghost use Rattle.model_core.specs.Text.Language.{target_format, change_format};
 ghost use Rattle.model_core.specs.Text.Numbering as numbering;
 ghost use Rattle.model_core.specs.Static.Meanings.{meaning_of};
-ghost use Rattle.model_core.specs.Static.PartFaults.{change_faults};
+ghost use Rattle.model_core.specs.Static.FaultOrder.{earliest_fault};
+ghost use Rattle.model_core.specs.Static.VersionFaults.{target_faults_version_1};
 ghost use Rattle.text_laws.specs.LanguageReader.{language_reader};
 ghost use Rattle.model_read.specs.Sources.{written_source};
-ghost use Rattle.one_pass.specs.Inner.ReadParts.{ReadSure};
+ghost use Rattle.one_pass.specs.Inner.AllFaults.{all_change_faults};
+ghost use Rattle.one_pass.specs.Inner.ReadParts.{ReadSure, ReadChecked};
 ghost use Rattle.one_pass.specs.Inner.ReadRows.{ReadRow};
 ghost use Rattle.one_pass.specs.Inner.ReadTargets.{IsTarget, ReadTarget};
 ghost use Rattle.one_pass.specs.Inner.ReadSources.{IsSource, ReadSource};
@@ -20,10 +24,10 @@ use crate::not_read::NotRead;
 use crate::refusing::refuse_fault;
 use crate::values::values;
 use arrayvec::ArrayVec;
-use model_core::{Change, Choice, Kind, Symbol, Target, Word};
-use model_read::{Cursor, RawSource, packed};
-use sig_base::{HeldValue, List, NoMemory, TARGETS_MAX};
-use sig_types::{FirstFault, Names, Typed, kinds_differ};
+use model_core::{Change, Choice, Kind, RawChange, Symbol, Target, Word};
+use model_read::{Cursor, Phrase, RawSource, packed};
+use sig_base::{HeldValue, List, NoMemory, TARGETS_MAX, TARGETS_MAX_VERSION_1};
+use sig_types::{FirstFault, Names, Typed, kinds_differ, report_target_count};
 use std::alloc::Global;
 
 /// Reads a variable or a cell that takes a value.
@@ -76,13 +80,33 @@ fn targets_begun_with(
     Ok(List::from_vec(targets))
 }
 
-/// Reads targets, separated by commas: no more than a change may have.
-fn targets(alloc: Global, cursor: &mut Cursor<'_>, names: &Names) -> Result<TypedTargets, NotRead>
+/// How many targets a change may have.
+fn targets_limit(is_two: bool) -> usize
+    ensures is { result ≡ cond is_two TARGETS_MAX TARGETS_MAX_VERSION_1 }
+    ensures some { 1 ≤ result }
+    ensures within { result ≤ TARGETS_MAX }
+{
+    if is_two {
+        TARGETS_MAX
+    } else {
+        TARGETS_MAX_VERSION_1
+    }
+}
+
+/// Reads targets, separated by commas: no more than a limit.
+fn targets(
+    alloc: Global,
+    cursor: &mut Cursor<'_>,
+    names: &Names,
+    limit: usize,
+) -> Result<TypedTargets, NotRead>
+    requires some { 1 ≤ limit }
+    requires within { limit ≤ TARGETS_MAX }
     ensures reads { IfOk result
         (λ t. ReadRow (separated target_format)
-        (IsTarget (meaning_of names.now)) cursor.old cursor.new
-        (map location_of t.targets) t.kinds.items) }
-    ensures few { IfOk result (λ t. length t.kinds.items ≤ TARGETS_MAX) }
+        (IsTarget (meaning_of names.now)) cursor.old cursor.new (map location_of t.targets)
+        t.kinds.items) }
+    ensures within { IfOk result (λ t. length t.kinds.items ≤ limit) }
 {
     let first = target(alloc, cursor, names)?;
     let mut targets = targets_begun_with(alloc, cursor, first.part)?;
@@ -90,7 +114,7 @@ fn targets(alloc: Global, cursor: &mut Cursor<'_>, names: &Names) -> Result<Type
     kinds.push(first.kind);
     while cursor.begins_symbol(Symbol::Comma) {
         cursor.symbol(Symbol::Comma)?;
-        if kinds.len() >= TARGETS_MAX {
+        if kinds.len() >= limit {
             return Err(NotRead::Unsure);
         }
         let next = target(alloc, cursor, names)?;
@@ -104,14 +128,20 @@ fn targets(alloc: Global, cursor: &mut Cursor<'_>, names: &Names) -> Result<Type
 }
 
 /// Reads a change that computes values.
-fn set(alloc: Global, cursor: &mut Cursor<'_>, names: &Names) -> Result<Change, NotRead>
+fn set(
+    alloc: Global,
+    cursor: &mut Cursor<'_>,
+    names: &Names,
+    is_two: bool,
+) -> Result<Change, NotRead>
     ensures { IfOk result
         (λ c. ReadSure change_format (meaning_of names.now)
-        (change_faults (meaning_of names.now)) numbering.change cursor.old cursor.new
+        (all_change_faults is_two (meaning_of names.now)) numbering.change cursor.old cursor.new
         (change_of c)) }
 {
     cursor.word(Word::Set)?;
-    let TypedTargets { targets, kinds } = targets(alloc, cursor, names)?;
+    let limit = targets_limit(is_two);
+    let TypedTargets { targets, kinds } = targets(alloc, cursor, names, limit)?;
     cursor.symbol(Symbol::Becomes)?;
     let values = values(alloc, cursor, names, kinds.as_slice())?;
     cursor.symbol(Symbol::Semicolon)?;
@@ -144,9 +174,10 @@ pub(crate) fn source(
 
 /// Reads a change that draws a value.
 fn draw(alloc: Global, cursor: &mut Cursor<'_>, names: &Names) -> Result<Change, NotRead>
-    ensures { IfOk result
+    ensures { (is_two : Bool)
+        → IfOk result
         (λ c. ReadSure change_format (meaning_of names.now)
-        (change_faults (meaning_of names.now)) numbering.change cursor.old cursor.new
+        (all_change_faults is_two (meaning_of names.now)) numbering.change cursor.old cursor.new
         (change_of c)) }
 {
     cursor.word(Word::Draw)?;
@@ -164,20 +195,50 @@ fn draw(alloc: Global, cursor: &mut Cursor<'_>, names: &Names) -> Result<Change,
     })
 }
 
-/// Reads a change.
+/// Reads a change that breaks no static rule.
 pub(crate) fn change(
     alloc: Global,
     cursor: &mut Cursor<'_>,
     names: &Names,
+    is_two: bool,
 ) -> Result<Change, NotRead>
     ensures { IfOk result
         (λ c. ReadSure change_format (meaning_of names.now)
-        (change_faults (meaning_of names.now)) numbering.change cursor.old cursor.new
+        (all_change_faults is_two (meaning_of names.now)) numbering.change cursor.old cursor.new
         (change_of c)) }
 {
     if cursor.begins_word(Word::Set) {
-        set(alloc, cursor, names)
+        set(alloc, cursor, names, is_two)
     } else {
         draw(alloc, cursor, names)
     }
+}
+
+/// Reports what a change breaks in a text that isn't of version 2.
+fn report_targets(is_two: bool, raw: &RawChange, fault: &mut FirstFault)
+    ensures { fault.new ≡ earliest_fault fault.old
+        (cond is_two [] (target_faults_version_1 (written_change raw.now))) }
+{
+    if !is_two {
+        report_target_count(raw, fault);
+    }
+}
+
+/// Reads a change as it is written, and checks it then.
+pub(crate) fn checked_change(
+    alloc: Global,
+    cursor: &mut Cursor<'_>,
+    names: &Names,
+    is_two: bool,
+    fault: &mut FirstFault,
+) -> Result<Change, NotRead>
+    ensures { IfOk result
+        (λ c. ReadChecked change_format (meaning_of names.now)
+        (all_change_faults is_two (meaning_of names.now)) numbering.change fault.old fault.new
+        cursor.old cursor.new (change_of c)) }
+{
+    let raw = RawChange::read(alloc, cursor)?;
+    let change = sig_types::change(alloc, names, &raw, fault)?;
+    report_targets(is_two, &raw, fault);
+    Ok(change)
 }

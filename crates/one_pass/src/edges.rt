@@ -1,6 +1,7 @@
-//! Edges, which are checked as they are read. Where an edge breaks a static rule these functions give up.
+//! Edges, which are checked as they are read. Where an edge breaks a static rule these functions give up, but for the last
+//! one, which reports the rule.
 
-ghost use Rattle.std.specs.Prelude.{◌≡◌, ℕ, pos, true, List, [], Option, Some, IfOk, OnOk};
+ghost use Rattle.std.specs.Prelude.{◌≡◌, ℕ, pos, Bool, true, cond, List, [], Option, Some, IfOk, OnOk};
 ghost use Rattle.model_core.specs.declared.model.Kind.{Kind as KnownKind};
 ghost use Rattle.model_core.specs.declared.model.Kind.TheVariants as kinds;
 ghost use Rattle.model_core.specs.declared.token.Word.TheVariants.{After, Priority};
@@ -11,10 +12,12 @@ ghost use Rattle.model_core.specs.Text.Format.{reserved, any_number, ◌*>◌, m
 ghost use Rattle.model_core.specs.Text.Language.{when_format, delay_format, schedule_format, urgent_format, edge_format};
 ghost use Rattle.model_core.specs.Text.Numbering as numbering;
 ghost use Rattle.model_core.specs.Text.Numbering.{written_or, natural};
+ghost use Rattle.model_core.specs.Static.FaultOrder.{earliest_fault};
 ghost use Rattle.model_core.specs.Static.Meanings.{Meaning, meaning_of};
-ghost use Rattle.model_core.specs.Static.PartFaults.{if_written, operand_faults, priority_faults, delay_faults, edge_faults};
-ghost use Rattle.static_laws.specs.Checked.{NumberedAs};
-ghost use Rattle.one_pass.specs.Inner.ReadParts.{ReadSure};
+ghost use Rattle.model_core.specs.Static.PartFaults.{if_written, operand_faults, priority_faults};
+ghost use Rattle.model_core.specs.Static.VersionFaults.{delay_faults_version_1};
+ghost use Rattle.one_pass.specs.Inner.AllFaults.{all_delay_faults, all_edge_faults};
+ghost use Rattle.one_pass.specs.Inner.ReadParts.{ReadSure, ReadChecked};
 
 use crate::carried::carried;
 use crate::changes::source;
@@ -24,18 +27,26 @@ use crate::values::value;
 use model_core::{Delay, Edge, EdgeForm, Expr, Kind, RawEdge, RawNumber, StaticKind, Symbol, Word};
 use model_read::{Cursor, Phrase};
 use sig_base::{HeldValue, List};
-use sig_types::{FirstFault, Names, bounded};
+use sig_types::{FirstFault, Names, bounded, report_drawn_delay};
 use std::alloc::Global;
 
-/// Reads a delay. The word `draw` decides its form.
-fn delay(alloc: Global, cursor: &mut Cursor<'_>, names: &Names) -> Result<Delay, NotRead>
+/// Reads a delay. The word `draw` decides its form, which needs version 2.
+fn delay(
+    alloc: Global,
+    cursor: &mut Cursor<'_>,
+    names: &Names,
+    is_two: bool,
+) -> Result<Delay, NotRead>
     ensures { (taken : List (List (Option KnownKind)))
         → IfOk result
         (λ w. ReadSure delay_format (meaning_of names.now)
-        (delay_faults (meaning_of names.now) taken) numbering.delay cursor.old cursor.new
-        (edge_delay_of w)) }
+        (all_delay_faults is_two (meaning_of names.now) taken) numbering.delay cursor.old
+        cursor.new (edge_delay_of w)) }
 {
     if cursor.begins_word(Word::Draw) {
+        if !is_two {
+            return Err(NotRead::Unsure);
+        }
         cursor.word(Word::Draw)?;
         let (stream, choice) = source(alloc, cursor, names)?;
         return Ok(Delay::Drawn { stream, choice });
@@ -45,11 +56,16 @@ fn delay(alloc: Global, cursor: &mut Cursor<'_>, names: &Names) -> Result<Delay,
 }
 
 /// Reads the delay of an edge: 0 where none is written.
-fn after(alloc: Global, cursor: &mut Cursor<'_>, names: &Names) -> Result<Delay, NotRead>
+fn after(
+    alloc: Global,
+    cursor: &mut Cursor<'_>,
+    names: &Names,
+    is_two: bool,
+) -> Result<Delay, NotRead>
     ensures { (taken : List (List (Option KnownKind)))
         → IfOk result
         (λ w. ReadSure (maybe (reserved After *> delay_format)) (meaning_of names.now)
-        (if_written (delay_faults (meaning_of names.now) taken))
+        (if_written (all_delay_faults is_two (meaning_of names.now) taken))
         (λ d. written_or (numbering.delay d) (Fixed (Number (pos 0)))) cursor.old cursor.new
         (edge_delay_of w)) }
 {
@@ -57,7 +73,7 @@ fn after(alloc: Global, cursor: &mut Cursor<'_>, names: &Names) -> Result<Delay,
         return Ok(Delay::Fixed(Expr::Int(0)));
     }
     cursor.word(Word::After)?;
-    let delay = delay(alloc, cursor, names)?;
+    let delay = delay(alloc, cursor, names, is_two)?;
     Ok(delay)
 }
 
@@ -110,15 +126,16 @@ fn schedule(
     cursor: &mut Cursor<'_>,
     names: &Names,
     taken: &[List<Option<Kind>>],
+    is_two: bool,
 ) -> Result<Edge, NotRead>
     ensures { IfOk result
         (λ e. ReadSure schedule_format (meaning_of names.now)
-        (edge_faults (meaning_of names.now) taken.now) numbering.edge cursor.old cursor.new
-        (edge_of e)) }
+        (all_edge_faults is_two (meaning_of names.now) taken.now) numbering.edge cursor.old
+        cursor.new (edge_of e)) }
 {
     cursor.word(Word::Schedule)?;
     let carried = carried(alloc, cursor, names, taken)?;
-    let delay = HeldValue::of(after(alloc, cursor, names)?);
+    let delay = HeldValue::of(after(alloc, cursor, names, is_two)?);
     let priority = priority(cursor)?;
     let condition = HeldValue::of(condition(alloc, cursor, names)?);
     cursor.symbol(Symbol::Semicolon)?;
@@ -140,10 +157,11 @@ fn urgent(
     names: &Names,
     taken: &[List<Option<Kind>>],
 ) -> Result<Edge, NotRead>
-    ensures { IfOk result
+    ensures { (is_two : Bool)
+        → IfOk result
         (λ e. ReadSure urgent_format (meaning_of names.now)
-        (edge_faults (meaning_of names.now) taken.now) numbering.edge cursor.old cursor.new
-        (edge_of e)) }
+        (all_edge_faults is_two (meaning_of names.now) taken.now) numbering.edge cursor.old
+        cursor.new (edge_of e)) }
 {
     cursor.word(Word::Urgent)?;
     let carried = carried(alloc, cursor, names, taken)?;
@@ -157,58 +175,54 @@ fn urgent(
     })
 }
 
-/// The edge that is written, where it breaks no static rule.
-fn checked(
-    alloc: Global,
-    names: &Names,
-    taken: &[List<Option<Kind>>],
-    raw: &RawEdge,
-) -> Result<Edge, NotRead>
-    ensures unbroken { OnOk result
-        (edge_faults (meaning_of names.now) taken.now (written_edge raw.now) ≡ []) }
-    ensures numbers { IfOk result
-        (λ e. NumberedAs (meaning_of names.now) (λ d. numbering.edge d (written_edge raw.now))
-        (edge_of e)) }
-{
-    let mut fault = FirstFault::new();
-    let edge = HeldValue::of(sig_types::edge(alloc, names, taken, raw, &mut fault)?);
-    refuse_fault(&fault)?;
-    Ok(edge.free())
-}
-
-/// Reads an edge as it is written, and checks it then.
-fn written_first(
-    alloc: Global,
-    cursor: &mut Cursor<'_>,
-    names: &Names,
-    taken: &[List<Option<Kind>>],
-) -> Result<Edge, NotRead>
-    ensures { IfOk result
-        (λ e. ReadSure edge_format (meaning_of names.now)
-        (edge_faults (meaning_of names.now) taken.now) numbering.edge cursor.old cursor.new
-        (edge_of e)) }
-{
-    let raw = RawEdge::read(alloc, cursor)?;
-    checked(alloc, names, taken, &raw)
-}
-
-/// Reads an edge. One that cancels is rare.
+/// Reads an edge that breaks no static rule. Gives up at one that cancels, which is rare.
 pub(crate) fn edge(
     alloc: Global,
     cursor: &mut Cursor<'_>,
     names: &Names,
     taken: &[List<Option<Kind>>],
+    is_two: bool,
 ) -> Result<Edge, NotRead>
     ensures { IfOk result
         (λ e. ReadSure edge_format (meaning_of names.now)
-        (edge_faults (meaning_of names.now) taken.now) numbering.edge cursor.old cursor.new
-        (edge_of e)) }
+        (all_edge_faults is_two (meaning_of names.now) taken.now) numbering.edge cursor.old
+        cursor.new (edge_of e)) }
 {
     if cursor.begins_word(Word::Schedule) {
-        schedule(alloc, cursor, names, taken)
+        schedule(alloc, cursor, names, taken, is_two)
     } else if cursor.begins_word(Word::Urgent) {
         urgent(alloc, cursor, names, taken)
     } else {
-        written_first(alloc, cursor, names, taken)
+        Err(NotRead::Unsure)
     }
+}
+
+/// Reports what an edge breaks in a text that isn't of version 2.
+fn report_delay(is_two: bool, raw: &RawEdge, fault: &mut FirstFault)
+    ensures { fault.new ≡ earliest_fault fault.old
+        (cond is_two [] (delay_faults_version_1 (written_edge raw.now).kind)) }
+{
+    if !is_two {
+        report_drawn_delay(&raw.form, fault);
+    }
+}
+
+/// Reads an edge as it is written, and checks it then.
+pub(crate) fn checked_edge(
+    alloc: Global,
+    cursor: &mut Cursor<'_>,
+    names: &Names,
+    taken: &[List<Option<Kind>>],
+    is_two: bool,
+    fault: &mut FirstFault,
+) -> Result<Edge, NotRead>
+    ensures { IfOk result
+        (λ e. ReadChecked edge_format (meaning_of names.now)
+        (all_edge_faults is_two (meaning_of names.now) taken.now) numbering.edge fault.old
+        fault.new cursor.old cursor.new (edge_of e)) }
+{
+    let raw = RawEdge::read(alloc, cursor)?;
+    let edge = sig_types::edge(alloc, names, taken, &raw, fault)?;
+    report_delay(is_two, &raw, fault);
+    Ok(edge)
 }

@@ -8,12 +8,12 @@ mod changes;
 mod edges;
 mod expressions;
 mod not_read;
+mod one_pass_error;
 mod parts;
 mod refusing;
 mod text;
 mod values;
-mod versions;
 mod vertices;
 
-pub use not_read::NotRead;
+pub use one_pass_error::OnePassError;
 pub use text::read_model;

@@ -1,6 +1,7 @@
 //! Reads and checks a whole model text.
 
-ghost use Rattle.std.specs.Prelude.{◌≡◌, [], map, Option, None, IfOk};
+ghost use Rattle.std.specs.Prelude.{◌≡◌, ℕ, [], map, Option, None, Err, IfOk};
+ghost use Rattle.model_core.specs.declared.static_kind.StaticKind.{StaticKind as Rule};
 ghost use Rattle.model_core.specs.declared.token.Word.TheVariants.{End};
 ghost use Rattle.model_core.specs.Code.Views.{vertex_of, graph_of};
 ghost use Rattle.model_core.specs.Code.WrittenViews.{written_vertex, written_model};
@@ -14,19 +15,23 @@ ghost use Rattle.text_laws.specs.LanguageReader.{language_reader};
 ghost use Rattle.model_lex.specs.PiecesOfText.{pieces_lexemes};
 ghost use Rattle.model_read.specs.Beginnings.{with_vertices, model_beginning};
 ghost use Rattle.static_laws.specs.DeclaredFaults.{faults_of_declared};
-ghost use Rattle.one_pass.specs.ReadModel.{AreAccepted};
-ghost use Rattle.one_pass.specs.Inner.ReadParts.{ReadVertices, ReadVerticesAfter, ReadText};
+ghost use Rattle.one_pass.specs.declared.one_pass_error.OnePassError.TheVariants as errors;
+ghost use Rattle.one_pass.specs.ReadModel.{AreAccepted, HaveFirstFault};
+ghost use Rattle.one_pass.specs.Inner.AllFaults.{declared_version_faults};
+ghost use Rattle.one_pass.specs.Inner.ReadParts.{ReadVertices, ReadVerticesAfter, ReadText, ReadWhole};
 
 use crate::beginnings::beginnings;
 use crate::not_read::NotRead;
-use crate::refusing::refuse_fault;
-use crate::versions::refuse_version;
+use crate::one_pass_error::OnePassError;
 use crate::vertices::vertices;
 use model_core::{Model, RawModel, RawVertex, Vertex, Word};
 use model_lex::{Pieces, pieces_are_in_text};
 use model_read::{Cursor, first_too_deep, read_model_beginning};
 use sig_base::{List, OPENINGS_MAX};
-use sig_types::{FirstFault, Names, check_lists, declared, items, report_long_text, taken};
+use sig_types::{
+    FirstFault, Names, check_lists, declared, is_version_two, items, report_long_text,
+    report_version, taken,
+};
 use std::alloc::Global;
 
 /// Reads the vertices, which must begin as expected.
@@ -34,15 +39,26 @@ fn expected_vertices(
     alloc: Global,
     cursor: &mut Cursor<'_>,
     names: &Names,
+    is_two: bool,
     expected: &[RawVertex],
+    fault: &mut FirstFault,
 ) -> Result<List<Vertex>, NotRead>
     ensures { IfOk result
-        (λ vs. ReadVertices (meaning_of names.now)
+        (λ vs. ReadVertices is_two (meaning_of names.now)
         (map (kinds_taken (meaning_of names.now)) (map written_vertex expected.now))
-        (map written_vertex expected.now) cursor.old cursor.new (map vertex_of vs)) }
+        (map written_vertex expected.now) fault.old fault.new cursor.old cursor.new
+        (map vertex_of vs)) }
 {
     let taken = taken(alloc, names, expected)?;
-    vertices(alloc, cursor, names, taken.as_slice(), expected)
+    vertices(
+        alloc,
+        cursor,
+        names,
+        taken.as_slice(),
+        is_two,
+        expected,
+        fault,
+    )
 }
 
 /// Reads the vertices of a model among these names.
@@ -56,9 +72,10 @@ fn among_names(
     ensures { IfOk result (λ model. meaning_of names.now ≡ model_meaning (written_model begun)
         → (start : Option StaticFault)
         → fault.old ≡ earliest_fault start (faults_of_declared (written_model begun))
-        → ReadVerticesAfter (written_model begun) cursor.old cursor.new start fault.new
+        → ReadVerticesAfter (written_model begun) start fault.new cursor.old cursor.new
         (graph_of model)) }
 {
+    let is_two = is_version_two(&begun.version);
     let lists = check_lists(
         alloc,
         names,
@@ -67,7 +84,14 @@ fn among_names(
         items(&begun.watch),
         fault,
     )?;
-    let vertices = expected_vertices(alloc, cursor, names, begun.vertices.as_slice())?;
+    let vertices = expected_vertices(
+        alloc,
+        cursor,
+        names,
+        is_two,
+        begun.vertices.as_slice(),
+        fault,
+    )?;
     Ok(Model {
         name: begun.name.name,
         vars: lists.vars,
@@ -78,31 +102,35 @@ fn among_names(
 }
 
 /// Reads the vertices of a model whose declarations are read, as are the beginnings of its vertices.
-fn behind(
+fn after_declarations(
     alloc: Global,
     cursor: &mut Cursor<'_>,
     begun: RawModel,
     fault: &mut FirstFault,
 ) -> Result<Model, NotRead>
     ensures { IfOk result
-        (λ model. ReadVerticesAfter (written_model begun) cursor.old cursor.new fault.old fault.new
+        (λ model. ReadVerticesAfter (written_model begun) fault.old fault.new cursor.old cursor.new
         (graph_of model)) }
 {
     let names = declared(alloc, &begun, fault)?;
     among_names(alloc, cursor, &names, begun, fault)
 }
 
-/// Reads the declarations of a model whose vertices begin so.
-fn beginning(
+/// Reads the declarations of a model whose vertices begin so, and reports what its version doesn't allow there.
+fn declarations(
     alloc: Global,
     cursor: &mut Cursor<'_>,
     expected: List<RawVertex>,
+    fault: &mut FirstFault,
 ) -> Result<RawModel, NotRead>
-    ensures { IfOk result
+    ensures reads { IfOk result
         (λ m. language_reader model_beginning cursor.old
         ≡ took (with_vertices (written_model m)) cursor.new) }
+    ensures version { IfOk result
+        (λ m. fault.new ≡ earliest_fault fault.old (declared_version_faults (written_model m))) }
 {
     let begun = read_model_beginning(alloc, cursor)?;
+    report_version(&begun, fault);
     Ok(RawModel {
         vertices: expected,
         ..begun
@@ -118,8 +146,7 @@ fn ending(cursor: &mut Cursor<'_>) -> Result<usize, NotRead>
     Ok(at)
 }
 
-/// Reads a model text whose vertices begin so, and nothing after it. Faults of its declarations and of its length are
-/// reported; at a fault in a vertex, and where the version can't write the model, the reading stops.
+/// Reads a model text whose vertices begin so, and nothing after it.
 fn text(
     alloc: Global,
     cursor: &mut Cursor<'_>,
@@ -129,19 +156,18 @@ fn text(
     requires { fault.old ≡ None }
     ensures { IfOk result (λ model. ReadText cursor.old fault.new (graph_of model)) }
 {
-    let begun = beginning(alloc, cursor, expected)?;
-    let version = begun.version;
-    let model = behind(alloc, cursor, begun, fault)?;
+    let begun = declarations(alloc, cursor, expected, fault)?;
+    let model = after_declarations(alloc, cursor, begun, fault)?;
     let end_at = ending(cursor)?;
-    refuse_version(version, &model)?;
     report_long_text(&model, end_at, fault);
     Ok(model)
 }
 
-/// The model that all of the pieces spell, where it keeps every static rule. Where none is given, it isn't known that there
-/// is none: `model_read` with `sig_types` says what is wrong.
-pub fn read_model(alloc: Global, pieces: &Pieces<'_>) -> Result<Model, NotRead>
-    ensures { IfOk result (λ model. AreAccepted (pieces_lexemes pieces.now) (graph_of model)) }
+/// Reads all of the pieces, where no part of them has too many openings.
+fn whole(alloc: Global, pieces: &Pieces<'_>, fault: &mut FirstFault) -> Result<Model, NotRead>
+    requires { fault.old ≡ None }
+    ensures { IfOk result
+        (λ model. ReadWhole (pieces_lexemes pieces.now) fault.new (graph_of model)) }
 {
     pieces_are_in_text();
     let list = pieces.list.as_slice();
@@ -150,8 +176,26 @@ pub fn read_model(alloc: Global, pieces: &Pieces<'_>) -> Result<Model, NotRead>
     }
     let expected = beginnings(alloc, pieces.text, list)?;
     let mut cursor = Cursor::new(pieces.text, list);
+    text(alloc, &mut cursor, expected, fault)
+}
+
+/// The model that all of the pieces spell, where it keeps every static rule, and else its first fault. `Unsure` says nothing of
+/// the pieces: `model_read` with `sig_types` says what is wrong with them.
+pub fn read_model(alloc: Global, pieces: &Pieces<'_>) -> Result<Model, OnePassError>
+    ensures ok { IfOk result (λ model. AreAccepted (pieces_lexemes pieces.now) (graph_of model)) }
+    ensures fault { (kind : Rule) (at : ℕ) → result ≡ Err (errors.Fault kind at)
+        → HaveFirstFault (pieces_lexemes pieces.now) kind at }
+{
     let mut fault = FirstFault::new();
-    let model = text(alloc, &mut cursor, expected, &mut fault)?;
-    refuse_fault(&fault)?;
-    Ok(model)
+    match whole(alloc, pieces, &mut fault) {
+        Ok(model) => match fault.found() {
+            None => Ok(model),
+            Some(found) => Err(OnePassError::Fault {
+                kind: found.kind,
+                at: found.at,
+            }),
+        },
+        Err(NotRead::Unsure) => Err(OnePassError::Unsure),
+        Err(NotRead::NoMemory) => Err(OnePassError::NoMemory),
+    }
 }

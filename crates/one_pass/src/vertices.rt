@@ -1,50 +1,62 @@
 //! The vertices of a model.
 
-ghost use Rattle.std.specs.Prelude.{◌≡◌, [], map, IfOk, OnOk};
+ghost use Rattle.std.specs.Prelude.{◌≡◌, cond, [], map, IfOk, OnOk};
+ghost use Rattle.sig_base.specs.declared.limits.TheConstants.{PARAMETERS_MAX_VERSION_1};
 ghost use Rattle.model_core.specs.Code.Views.{change_of, edge_of, vertex_of};
-ghost use Rattle.model_core.specs.Code.WrittenViews.{written_vertex};
+ghost use Rattle.model_core.specs.Code.WrittenViews.{written_name, written_vertex};
+ghost use Rattle.model_core.specs.Text.Written.{WrittenName};
 ghost use Rattle.model_core.specs.Text.Numbering.{each_numbered, numbered_parameter};
+ghost use Rattle.model_core.specs.Static.FaultOrder.{earliest_fault};
 ghost use Rattle.model_core.specs.Static.Meanings.{meaning_of};
-ghost use Rattle.model_core.specs.Static.RuleTable.{name_too_long};
-ghost use Rattle.model_core.specs.Static.PartFaults.{written_items, parameters_faults};
-ghost use Rattle.static_laws.specs.Checked.{NumberedAs};
+ghost use Rattle.model_core.specs.Static.RuleTable.{too_many};
+ghost use Rattle.model_core.specs.Static.PartFaults.{written_items};
+ghost use Rattle.static_laws.specs.Checked.{CheckedPart};
+ghost use Rattle.one_pass.specs.Inner.AllFaults.{all_beginning_faults};
 ghost use Rattle.one_pass.specs.Inner.ReadParts.{BeginAlike, ReadBody, ReadVertex, ReadVertices};
 
 use crate::beginnings::begin_alike;
 use crate::not_read::NotRead;
 use crate::parts::take_all;
-use crate::refusing::refuse_fault;
-use model_core::{Change, Edge, Kind, RawVertex, Symbol, Vertex};
+use model_core::{Change, Edge, Kind, RawName, RawVertex, Symbol, Vertex};
 use model_read::{Cursor, Repeated, read_vertex_beginning};
-use sig_base::{CHANGES_MAX, EDGES_MAX, List, Name};
-use sig_types::{FirstFault, Names, items, parameters, report_long_name};
+use sig_base::{CHANGES_MAX, EDGES_MAX, List, Name, PARAMETERS_MAX_VERSION_1};
+use sig_types::{FirstFault, Names, items, parameters, report_long_name, report_too_many};
 use std::alloc::Global;
 
-/// The parameters of a vertex that begins as expected, and breaks no static rule up to its changes.
-fn known_parameters(
+/// Reports what the parameters of a vertex break in a text that isn't of version 2.
+fn report_later_parameters(is_two: bool, params: &[RawName], fault: &mut FirstFault)
+    ensures { fault.new ≡ earliest_fault fault.old
+        (cond is_two [] (too_many PARAMETERS_MAX_VERSION_1
+        (map (λ (n : WrittenName). n.at) (map written_name params.now)))) }
+{
+    if !is_two {
+        report_too_many(PARAMETERS_MAX_VERSION_1, params, fault);
+    }
+}
+
+/// The parameters of a vertex that begins as expected.
+fn expected_parameters(
     alloc: Global,
     names: &Names,
+    is_two: bool,
     begun: &RawVertex,
     expected: &RawVertex,
+    fault: &mut FirstFault,
 ) -> Result<List<usize>, NotRead>
     ensures alike { OnOk result
         (BeginAlike (written_vertex begun.now) (written_vertex expected.now)) }
-    ensures named { OnOk result (name_too_long (written_vertex begun.now).name ≡ []) }
-    ensures unbroken { OnOk result
-        (parameters_faults (meaning_of names.now) []
-        (written_items (written_vertex begun.now).parameters) ≡ []) }
-    ensures numbers { IfOk result
-        (λ ps. NumberedAs (meaning_of names.now)
+    ensures checked { IfOk result
+        (λ ps. CheckedPart (meaning_of names.now) fault.old fault.new
+        (all_beginning_faults is_two (meaning_of names.now) (written_vertex begun.now))
         (λ d. each_numbered (numbered_parameter d)
         (written_items (written_vertex begun.now).parameters)) ps) }
 {
     if !begin_alike(begun, expected) {
         return Err(NotRead::Unsure);
     }
-    let mut fault = FirstFault::new();
-    report_long_name(&begun.name, &mut fault);
-    let params = parameters(alloc, names, items(&begun.params), &mut fault)?;
-    refuse_fault(&fault)?;
+    report_long_name(&begun.name, fault);
+    let params = parameters(alloc, names, items(&begun.params), fault)?;
+    report_later_parameters(is_two, items(&begun.params), fault);
     Ok(params)
 }
 
@@ -61,13 +73,15 @@ fn body(
     cursor: &mut Cursor<'_>,
     names: &Names,
     taken: &[List<Option<Kind>>],
+    is_two: bool,
+    fault: &mut FirstFault,
 ) -> Result<VertexBody, NotRead>
     ensures { IfOk result
-        (λ b. ReadBody (meaning_of names.now) taken.now cursor.old cursor.new
-        (map change_of b.changes) (map edge_of b.edges)) }
+        (λ b. ReadBody is_two (meaning_of names.now) taken.now fault.old fault.new cursor.old
+        cursor.new (map change_of b.changes) (map edge_of b.edges)) }
 {
-    let changes = take_all(alloc, cursor, names, taken)?;
-    let edges = take_all(alloc, cursor, names, taken)?;
+    let changes = take_all(alloc, cursor, names, taken, is_two, fault)?;
+    let edges = take_all(alloc, cursor, names, taken, is_two, fault)?;
     cursor.symbol(Symbol::CloseBrace)?;
     if changes.len() > CHANGES_MAX || edges.len() > EDGES_MAX {
         return Err(NotRead::Unsure);
@@ -88,16 +102,18 @@ fn vertex(
     cursor: &mut Cursor<'_>,
     names: &Names,
     taken: &[List<Option<Kind>>],
+    is_two: bool,
     expected: &RawVertex,
+    fault: &mut FirstFault,
 ) -> Result<Vertex, NotRead>
     ensures { IfOk result
-        (λ v. ReadVertex (meaning_of names.now) taken.now
-        (written_vertex expected.now) cursor.old cursor.new (vertex_of v)) }
+        (λ v. ReadVertex is_two (meaning_of names.now) taken.now
+        (written_vertex expected.now) fault.old fault.new cursor.old cursor.new (vertex_of v)) }
 {
     let begun = read_vertex_beginning(alloc, cursor)?;
-    let params = known_parameters(alloc, names, &begun, expected)?;
+    let params = expected_parameters(alloc, names, is_two, &begun, expected, fault)?;
     let name = name_of(begun);
-    let body = body(alloc, cursor, names, taken)?;
+    let body = body(alloc, cursor, names, taken, is_two, fault)?;
     Ok(Vertex {
         name,
         params,
@@ -112,18 +128,21 @@ pub(crate) fn vertices(
     cursor: &mut Cursor<'_>,
     names: &Names,
     taken: &[List<Option<Kind>>],
+    is_two: bool,
     expected: &[RawVertex],
+    fault: &mut FirstFault,
 ) -> Result<List<Vertex>, NotRead>
     ensures { IfOk result
-        (λ vs. ReadVertices (meaning_of names.now) taken.now
-        (map written_vertex expected.now) cursor.old cursor.new (map vertex_of vs)) }
+        (λ vs. ReadVertices is_two (meaning_of names.now) taken.now
+        (map written_vertex expected.now) fault.old fault.new cursor.old cursor.new
+        (map vertex_of vs)) }
 {
     let mut vertices = Vec::with_capacity(alloc, expected.len())?;
     for begun in expected {
         if !RawVertex::begins(cursor) {
             return Err(NotRead::Unsure);
         }
-        vertices.push(vertex(alloc, cursor, names, taken, begun)?)?;
+        vertices.push(vertex(alloc, cursor, names, taken, is_two, begun, fault)?)?;
     }
     let vertices = List::from_vec(vertices);
     if RawVertex::begins(cursor) || vertices.len() == 0 {

@@ -304,7 +304,7 @@ fn draw(
 }
 
 /// A change.
-fn change(
+pub fn change(
     alloc: Global,
     names: &Names,
     raw: &RawChange,

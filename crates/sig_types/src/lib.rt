@@ -21,7 +21,7 @@ mod versions;
 mod vertices;
 mod watch;
 
-pub use changes::{source, wanted_at};
+pub use changes::{change, source, wanted_at};
 pub use checking::{CheckedLists, check, check_lists, declared, report_long_text};
 pub use declaring::report_long_name;
 pub use edges::{edge, items};
@@ -30,5 +30,7 @@ pub use first_fault::FirstFault;
 pub use kinds::{Typed, kinds_differ, known_or, operand_kind, result_kind, right_kind};
 pub use names::Names;
 pub use numbers::bounded;
+pub use placed::{Placed, report_too_many};
 pub use uses::{spelled_variable, spelled_vertex};
+pub use versions::{is_version_two, report_drawn_delay, report_target_count, report_version};
 pub use vertices::{parameters, taken};

@@ -29,7 +29,7 @@ pub trait Placed {
 }
 
 /// Reports the first part beyond a limit.
-pub(crate) fn report_too_many<T: Placed>(limit: usize, parts: &[T], fault: &mut FirstFault)
+pub fn report_too_many<T: Placed>(limit: usize, parts: &[T], fault: &mut FirstFault)
     ensures { fault.new
         ≡ earliest_fault fault.old (too_many limit (map T.begins (map T.written parts.now))) }
 {

@@ -24,7 +24,7 @@ use sig_base::{
 };
 
 /// Whether a text says that it is of version 2.
-fn is_version_two(raw: &Option<RawNumber>) -> bool
+pub fn is_version_two(raw: &Option<RawNumber>) -> bool
     ensures { result ≡ is_version_two (option_map written_number raw.now) }
 {
     match raw {
@@ -69,7 +69,7 @@ fn report_array_sizes(raws: &[RawVar], fault: &mut FirstFault)
 }
 
 /// Reports the first target beyond those that a `set` of version 1 may have.
-fn report_target_count(raw: &RawChange, fault: &mut FirstFault)
+pub fn report_target_count(raw: &RawChange, fault: &mut FirstFault)
     ensures { fault.new
         ≡ earliest_fault fault.old (target_faults_version_1 (written_change raw.now)) }
 {
@@ -93,7 +93,7 @@ fn report_target_counts(raws: &[RawChange], fault: &mut FirstFault)
 }
 
 /// Reports the delay of an edge, at its word `draw`, where it is drawn.
-fn report_drawn_delay(raw: &RawEdgeForm, fault: &mut FirstFault)
+pub fn report_drawn_delay(raw: &RawEdgeForm, fault: &mut FirstFault)
     ensures { fault.new
         ≡ earliest_fault fault.old (delay_faults_version_1 (written_edge_kind raw.now)) }
 {
@@ -187,7 +187,7 @@ fn report_all_cells(raws: &[RawVar], fault: &mut FirstFault)
 }
 
 /// Reports an unknown version, and what a text of the version may not have.
-pub(crate) fn report_version(raw: &RawModel, fault: &mut FirstFault)
+pub fn report_version(raw: &RawModel, fault: &mut FirstFault)
     ensures { fault.new ≡ earliest_fault fault.old (version_faults (written_model raw.now)) }
 {
     report_unknown_version(&raw.version, fault);

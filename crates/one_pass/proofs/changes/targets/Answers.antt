@@ -13,7 +13,7 @@ loop-alloc-init c =
     let first = c.in_ok-first.ensures.reads in
     rw (c.in_ok-targets.ensures, c.push.ensures.items, c.new-kinds.ensures) (record {
       so_far = first_read target_format (IsTarget (meaning_of c.args.names.now)) c.args.cursor.now c.target.new.cursor first.written (location_of c.in_ok-first.first.part) c.in_ok-first.first.kind first.is_read first.target;
-      few = omega arith;
+      within = omega arith;
     })
 
 pub loop-alloc-preserved : goal.loop-alloc-preserved
@@ -24,7 +24,7 @@ loop-alloc-preserved c =
     rw (c.in_ok-push.ensures.ok, map_push location_of so_far.targets part, c.push-in-loop-alloc-2.ensures.items) (record {
       so_far = next_read target_format (IsTarget (meaning_of c.args.names.now)) c.args.cursor.now so_far.cursor c.symbol.new.self c.target-in-loop-alloc.new.cursor _ next.written (location_of part) c.in_ok-next.next.kind
           (map location_of so_far.targets) so_far.kinds.items c.in_ok-symbol.ensures.reads next.is_read next.target so_far.invariant.so_far;
-      few = let longer = length-append so_far.kinds.items (c.in_ok-next.next.kind ∷ []) in let here = c.len.ensures.value in let short = c.if-len-ge-TARGETS_MAX.false in omega arith;
+      within = let longer = length-append so_far.kinds.items (c.in_ok-next.next.kind ∷ []) in let here = c.len.ensures.value in let short = c.if-len-limit.false in omega arith;
     })
 
 pub returns : goal.returns
@@ -32,5 +32,5 @@ returns c =
     let l = c.loop-alloc in
     rw c.packed.ensures (record {
       reads = all_read target_format (IsTarget (meaning_of c.args.names.now)) c.args.cursor.now l.cursor (map location_of l.targets) l.kinds.items (sym c.loop-alloc-test.ensures) l.invariant.so_far;
-      few = l.invariant.few;
+      within = l.invariant.within;
     })

@@ -14,11 +14,11 @@ loop-alloc-smaller g c =
 pub loop-alloc-preserved : goal.loop-alloc-preserved
 loop-alloc-preserved g c =
     let m = meaning_of c.args.names.now in
-    one_more_taken g.T.Part.format m (g.T.Part.faults m c.args.taken.now) g.T.Part.number g.T.Part.plain g.met.T.Part.some_tokens c.args.cursor.now c.loop-alloc.cursor c.take.new.cursor
+    one_more_taken g.T.Part.format m (g.T.Part.faults c.args.is_two m c.args.taken.now) g.T.Part.number g.T.Part.plain g.met.T.Part.some_tokens c.args.fault.now c.loop-alloc.fault c.take.new.fault c.args.cursor.now c.loop-alloc.cursor c.take.new.cursor
     c.loop-alloc.parts c.push.new.self c.in_ok-take.field-0 (sym c.loop-alloc-test.ensures) c.in_ok-push.ensures.ok c.loop-alloc.invariant c.in_ok-take.ensures
 
 pub returns : goal.returns
 returns g c =
     let m = meaning_of c.args.names.now in
-    rw c.packed.ensures (all_taken g.T.Part.format m (g.T.Part.faults m c.args.taken.now) g.T.Part.number g.T.Part.plain g.met.T.Part.some_tokens c.args.cursor.now c.loop-alloc.cursor c.loop-alloc.parts
+    rw c.packed.ensures (all_taken g.T.Part.format m (g.T.Part.faults c.args.is_two m c.args.taken.now) g.T.Part.number g.T.Part.plain g.met.T.Part.some_tokens c.args.fault.now c.loop-alloc.fault c.args.cursor.now c.loop-alloc.cursor c.loop-alloc.parts
     (sym c.loop-alloc-test.ensures) c.loop-alloc.invariant)

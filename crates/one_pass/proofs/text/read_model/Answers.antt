@@ -1,21 +1,27 @@
--- No fault was found in the model, so it is accepted.
-use Rattle.std.proofs.Common.{◌≡◌, [], map, sym, ap, ◌∙◌}
-use Rattle.sig_base.specs.declared.limits.TheConstants.{OPENINGS_MAX}
-use Rattle.model_lex.specs.PieceViews.{piece_of}
-use Rattle.text_laws.proofs.Formats.TextLaws.{whole-is_spelled}
-use Rattle.text_laws.proofs.OpeningLaws.{none-is_few}
-use Rattle.model_lex.specs.PiecesOfText.{pieces_lexemes}
+-- Of a whole text: its model, or its first fault.
+use Rattle.std.proofs.Common.{sym, ap, ◌∙◌}
+use Rattle.std.specs.Option.{option_map}
+use Rattle.sig_types.specs.declared.first_fault.Fault.{Fault}
+use Rattle.one_pass.proofs.FirstFaultError.{is_first_fault}
 use Rattle.one_pass.proofs.text.read_model.Goals as goal
 
-pub returns : goal.returns
-returns c =
-    let text = c.args.pieces.now.text.now in
-    let ls = pieces_lexemes c.args.pieces.now in
-    let are : c.new-cursor.result ≡ ls = c.new-cursor.ensures ∙ ap (map (piece_of text)) c.as_slice-list.ensures in
-    let read = rw are at c.in_ok-model.ensures in
+pub returns-in-None-clause-ok : goal.returns-in-None-clause-ok
+returns-in-None-clause-ok c =
+    let read = c.in-Ok.ensures in
     record {
       written = read.written;
-      spelled = whole-is_spelled ls read.written [] read.read;
-      few = none-is_few OPENINGS_MAX ls (sym (rw c.as_slice-list.ensures at (c.first_too_deep.ensures text)) ∙ c.in_default.is);
-      accepted = read.accepted c.in_ok-refuse_fault.ensures.none_found;
+      spelled = read.spelled;
+      few_openings = read.few_openings;
+      accepted = read.decided.accepted (c.found.ensures ∙ ap (option_map (λ (f : Fault). record { at = f.at; kind = f.kind })) c.in-None.is);
+    }
+
+pub returns-in-Some-clause-fault : goal.returns-in-Some-clause-fault
+returns-in-Some-clause-fault c = λ kind at is.
+    let read = c.in-Ok.ensures in
+    record {
+      written = read.written;
+      spelled = read.spelled;
+      few_openings = read.few_openings;
+      is_first = is_first_fault read.written c.in-Some.found.kind kind c.in-Some.found.at at
+          (sym read.decided.is_first ∙ c.found.ensures ∙ ap (option_map (λ (f : Fault). record { at = f.at; kind = f.kind })) c.in-Some.is) is;
     }

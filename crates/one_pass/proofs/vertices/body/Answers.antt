@@ -8,15 +8,16 @@ pub returns : goal.returns
 returns c =
     let changes = length-map c.in_ok-changes.changes change_of in
     let edges = length-map c.in_ok-edges.edges edge_of in
-    let some : length (map change_of c.in_ok-changes.changes) ≤ CHANGES_MAX = omega (arith, c.if-len-gt-CHANGES_MAX.false, c.len.ensures) in
-    let few : length (map edge_of c.in_ok-edges.edges) ≤ EDGES_MAX = omega (arith, c.if-len-gt-EDGES_MAX.false, c.len-else-len-gt-CHANGES_MAX.ensures) in
+    let changes_within : length (map change_of c.in_ok-changes.changes) ≤ CHANGES_MAX = omega (arith, c.if-len-gt-CHANGES_MAX.false, c.len.ensures) in
+    let edges_within : length (map edge_of c.in_ok-edges.edges) ≤ EDGES_MAX = omega (arith, c.if-len-gt-EDGES_MAX.false, c.len-else-len-gt-CHANGES_MAX.ensures) in
     record {
       between = c.take_all.new.cursor;
       last = c.take_all-2.new.cursor;
       end_at = c.in_ok-symbol.field-0;
+      first = c.take_all.new.fault;
       changes = c.in_ok-changes.ensures;
-      some = some;
+      changes_within = changes_within;
       edges = c.in_ok-edges.ensures;
-      few = few;
+      edges_within = edges_within;
       closed = c.in_ok-symbol.ensures.reads;
     }

@@ -7,8 +7,8 @@ use Rattle.model_core.specs.Code.WrittenViews.{written_vertex}
 use Rattle.model_core.specs.Text.Language.{vertex_format}
 use Rattle.model_core.specs.Text.Numbering as numbering
 use Rattle.model_core.specs.Static.Meanings.{meaning_of}
-use Rattle.model_core.specs.Static.PartFaults.{vertex_faults}
 use Rattle.text_laws.specs.SomeTokens.{vertex-some}
+use Rattle.one_pass.specs.Inner.AllFaults.{all_vertex_faults}
 use Rattle.one_pass.specs.Inner.ReadParts.{AllBeginAlike}
 use Rattle.one_pass.proofs.PartsInTurn.{none_taken, one_more_taken, all_taken}
 use Rattle.one_pass.proofs.Alike.{alike-push}
@@ -19,7 +19,7 @@ pub loop-begun-init : goal.loop-begun-init
 unfolding none_taken
 loop-begun-init c =
     let m = meaning_of c.args.names.now in
-    rw c.in_ok-vertices.ensures.items (record { so_far = none_taken vertex_format m (vertex_faults m c.args.taken.now) numbering.vertex vertex_of c.args.cursor.now; alike = tt })
+    rw c.in_ok-vertices.ensures.items (record { so_far = none_taken vertex_format m (all_vertex_faults c.args.is_two m c.args.taken.now) numbering.vertex vertex_of c.args.fault.now c.args.cursor.now; alike = tt })
 
 pub loop-begun-preserved : goal.loop-begun-preserved
 unfolding one_more_taken
@@ -28,7 +28,7 @@ loop-begun-preserved c =
     let so_far = c.loop-begun.invariant.so_far in
     let read = c.in_ok-vertex.ensures in
     record {
-      so_far = one_more_taken vertex_format m (vertex_faults m c.args.taken.now) numbering.vertex vertex_of vertex-some c.args.cursor.now c.loop-begun.cursor c.vertex.new.cursor
+      so_far = one_more_taken vertex_format m (all_vertex_faults c.args.is_two m c.args.taken.now) numbering.vertex vertex_of vertex-some c.args.fault.now c.loop-begun.fault c.vertex.new.fault c.args.cursor.now c.loop-begun.cursor c.vertex.new.cursor
           c.loop-begun.vertices.items c.push.new.self.items c.in_ok-vertex.field-0 (sym c.if-not-begins.ensures) c.in_ok-push.ensures.items so_far read.part;
       alike = rw (seen_more written_vertex c.args.expected.now c.loop-begun.begun-index c.begun-item.result c.loop-begun-test.true c.begun-item.is)
           (alike-push so_far.seen (map written_vertex (take c.loop-begun.begun-index c.args.expected.now)) read.part.written (written_vertex c.begun-item.result) c.loop-begun.invariant.alike read.alike);
@@ -42,6 +42,6 @@ returns c =
     let size = length-map c.loop-begun.vertices.items vertex_of in
     let counted = ap length c.from_vec-vertices.ensures in
     let some : 0 < length (map vertex_of c.loop-begun.vertices.items) = omega (arith, c.if-len-eq0.false, c.len.ensures) in
-    rw c.from_vec-vertices.ensures (vertices_taken m c.args.taken.now (map written_vertex c.args.expected.now) c.args.cursor.now c.loop-begun.cursor (map vertex_of c.loop-begun.vertices.items) some
-    (all_taken vertex_format m (vertex_faults m c.args.taken.now) numbering.vertex vertex_of vertex-some c.args.cursor.now c.loop-begun.cursor c.loop-begun.vertices.items (sym c.if-begins.ensures) so_far)
+    rw c.from_vec-vertices.ensures (vertices_taken c.args.is_two m c.args.taken.now (map written_vertex c.args.expected.now) c.args.fault.now c.loop-begun.fault c.args.cursor.now c.loop-begun.cursor (map vertex_of c.loop-begun.vertices.items) some
+    (all_taken vertex_format m (all_vertex_faults c.args.is_two m c.args.taken.now) numbering.vertex vertex_of vertex-some c.args.fault.now c.loop-begun.fault c.args.cursor.now c.loop-begun.cursor c.loop-begun.vertices.items (sym c.if-begins.ensures) so_far)
     (subst (λ xs. AllBeginAlike so_far.seen (map written_vertex xs)) (take_all c.loop-begun.begun-index c.args.expected.now (omega (arith, c.loop-begun-test.false))) c.loop-begun.invariant.alike))
