@@ -125,8 +125,8 @@ pub fn sigma<S: Source, K: Sink, E: Sink>(
         → IfSome (S.seen input.old).left (λ text.
         (g : EventGraph) → Reads text g → (result ≡ Status.Done) ⊎ (result ≡ Status.NoMemory)) }
 
-    // Where memory lacks nothing is written, unless the job may stop short: `run` and `resume` where the run exceeds the room
-    // that it was given, and `replicate`.
+    // If memory is refused, nothing is written, unless the job may stop short: `replicate`, and `run` and `resume` of a run
+    // that exceeds the room that it was given.
     ensures writes_nothing { (job : Job) → job_of (map string_bytes words.now) ≡ Some job
         → result ≡ Status.NoMemory
         → IfSome (text_of (limit_of (reading_of job)) (S.seen input.old).left)
