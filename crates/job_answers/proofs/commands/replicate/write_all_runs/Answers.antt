@@ -22,7 +22,7 @@ of_model s m options number tally of is = is ∙ ap (λ (s : ModelWithStarts). t
 pub returns-in_err-tally : goal.returns-in_err-tally
 returns-in_err-tally g c =
     let seen = g.K.Sink.seen in
-    passed_memory _ c.from_residual-in_err-tally.result (seen c.args.output.now) (seen c.loop-number.output) c.from_residual-in_err-tally.ensures.1
+    passed_memory _ c.from_residual.result (seen c.args.output.now) (seen c.loop-number.output) c.from_residual.ensures.1
     (stopped (Left (graph_of c.args.model.now) c.args.options.now c.loop-number.totals c.loop-number.number) _ (seen c.args.output.now) (seen c.loop-number.output) c.loop-number.invariant.0)
 
 -- the rows of a run aren't written
@@ -32,7 +32,7 @@ returns-in_err-write_run_rows g c =
     let graph = graph_of c.args.model.now in
     let options = c.args.options.now in
     let all = rest_of_report graph options c.args.totals 1 options.runs in
-    let (f, passed, broken) = passed_failure (run_rows graph c.loop-number.number c.seed_of_run-seed.result c.in_ok-tally.tally) c.write_run_rows.result c.from_residual.result c.in_err-write_run_rows.field-0.0 (seen c.loop-number.output) (seen c.write_run_rows.new.output) c.in_err-write_run_rows.was c.from_residual.ensures.1 c.write_run_rows.ensures.written in
+    let (f, passed, broken) = passed_failure (run_rows graph c.loop-number.number c.seed_of_run-seed.result c.in_ok-tally.tally) c.write_run_rows.result c.from_residual-in_err-write_run_rows.result c.in_err-write_run_rows.field-0.0 (seen c.loop-number.output) (seen c.write_run_rows.new.output) c.in_err-write_run_rows.was c.from_residual-in_err-write_run_rows.ensures.1 c.write_run_rows.ensures.written in
     subst (λ (r : Result Unit Failure). WritesPieces all r (seen c.args.output.now) (seen c.write_run_rows.new.output)) (sym passed)
     (run_broken graph options c.loop-number.totals c.loop-number.totals c.loop-number.number c.seed_of_run-seed.result c.in_ok-tally.tally all (seen c.args.output.now) (seen c.loop-number.output) (seen c.write_run_rows.new.output)
     c.loop-number-test.true c.seed_of_run-seed.ensures (of_model c.args.starts.now c.args.model.now options c.loop-number.number c.in_ok-tally.tally c.requires.given c.in_ok-tally.ensures.of_run) c.loop-number.invariant.0 f broken)
