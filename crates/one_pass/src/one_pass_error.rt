@@ -1,8 +1,8 @@
-//! Why a text isn't read in one pass.
+//! Errors of reading in one pass.
 
 use model_core::StaticKind;
 
-/// Why a text isn't read in one pass.
+/// Why one pass over a text gives no model.
 #[derive(Clone, Copy, Debug, PartialEq, Eq)]
 pub enum OnePassError {
     /// The first fault of the model that the pieces spell, and its byte, which counts from 0.

@@ -12,16 +12,16 @@ use std::sync::ledger::{Blank, Ledger};
 use std::test::*;
 
 /// Schedules an event that carries one value, where there is room for it.
-fn put<P: Pending, L: Ledger>(pending: &mut P, told: First, value: i64, steps: &mut Steps<L>) {
-    if pending.spare() == 0 || pending.numbered() > 100 || told.vertex >= pending.vertices() {
+fn put<P: Pending, L: Ledger>(pending: &mut P, first: First, value: i64, steps: &mut Steps<L>) {
+    if pending.spare() == 0 || pending.numbered() > 100 || first.vertex >= pending.vertices() {
         return;
     }
     let mut values = Carried::new();
     values.push(value);
     let entry = Entry {
-        time: told.time,
-        priority: told.priority,
-        vertex: told.vertex,
+        time: first.time,
+        priority: first.priority,
+        vertex: first.vertex,
         values,
     };
     pending.schedule(&entry, steps);
@@ -53,12 +53,12 @@ fn order<P: Pending, L: Ledger>(
         (2, 5, 2, 5),
         (2, 6, 2, 6),
     ] {
-        let told = First {
+        let first = First {
             time,
             priority,
             vertex,
         };
-        put(pending, told, value, &mut steps);
+        put(pending, first, value, &mut steps);
     }
     let mut six = Carried::new();
     six.push(6);
@@ -72,7 +72,7 @@ fn order<P: Pending, L: Ledger>(
     ])
 }
 
-fn told(time: u64, priority: u8, vertex: usize, value: i64) -> Option<(First, i64)> {
+fn taken_event(time: u64, priority: u8, vertex: usize, value: i64) -> Option<(First, i64)> {
     let first = First {
         time,
         priority,
@@ -83,10 +83,10 @@ fn told(time: u64, priority: u8, vertex: usize, value: i64) -> Option<(First, i6
 
 /// Whether these are the four events that aren't cancelled, by time, priority and scheduling.
 fn is_in_order(order: &[Option<(First, i64)>; 4]) -> bool {
-    order[0] == told(1, 9, 2, 4)
-        && order[1] == told(2, 5, 1, 3)
-        && order[2] == told(2, 5, 2, 5)
-        && order[3] == told(2, 7, 0, 1)
+    order[0] == taken_event(1, 9, 2, 4)
+        && order[1] == taken_event(2, 5, 1, 3)
+        && order[2] == taken_event(2, 5, 2, 5)
+        && order[3] == taken_event(2, 7, 0, 1)
 }
 
 #[test]

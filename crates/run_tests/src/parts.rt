@@ -46,7 +46,7 @@ fn put_together_if<'m, P: Pending>(apart: bool, model: &'m Model, run: Run<'m, P
 /// A run after six steps: the answer of each, the clock's time, how many steps were made, and how
 /// many events are pending and were ever scheduled.
 #[derive(Clone, Copy, Debug, PartialEq, Eq)]
-struct Stand {
+struct AfterSixSteps {
     turns: [Turn; 6],
     clock: u64,
     made: u64,
@@ -56,13 +56,13 @@ struct Stand {
 
 /// A run after six steps from its beginning, before each of which it is taken apart where that is
 /// asked for.
-fn stand_of<'m, P: Pending + Drop, L: Ledger>(
+fn after_six_steps<'m, P: Pending + Drop, L: Ledger>(
     model: &'m Model,
     run: Run<'m, P>,
     apart: bool,
     until: u64,
     blank: Blank,
-) -> Result<Stand, NoMemory>
+) -> Result<AfterSixSteps, NoMemory>
     requires possible { PossibleModel (graph_of model.now) }
     requires one_model { run.model ≡ model.now }
     requires fresh { run.turns ≡ 0 }
@@ -78,7 +78,7 @@ fn stand_of<'m, P: Pending + Drop, L: Ledger>(
         run = put_together_if(apart, model, run);
         turns[i] = run.step(until, &mut steps)?;
     }
-    let stand = Stand {
+    let after = AfterSixSteps {
         turns,
         clock: run.clock(),
         made: run.turns(),
@@ -86,17 +86,17 @@ fn stand_of<'m, P: Pending + Drop, L: Ledger>(
         numbered: run.pending().numbered(),
     };
     forget(run);
-    Ok(stand)
+    Ok(after)
 }
 
 /// A run with the seed 42 and no starting values after six steps up to 16 over an empty list.
-fn stand_over<P: Pending + Drop, L: Ledger>(
+fn after_six_steps_over<P: Pending + Drop, L: Ledger>(
     alloc: Global,
     model: &Model,
     pending: P,
     apart: bool,
     blank: Blank,
-) -> Result<Stand, Refused>
+) -> Result<AfterSixSteps, Refused>
     requires possible { PossibleModel (graph_of model.now) }
     requires empty { P.entries pending ≡ [] }
     requires fresh { P.numbered pending ≡ 0 }
@@ -106,33 +106,57 @@ fn stand_over<P: Pending + Drop, L: Ledger>(
     requires some { 0 < blank.parts }
 {
     let run = Run::begin(alloc, model, pending, 42, &List::new(alloc), 1)?;
-    Ok(stand_of::<P, L>(model, run, apart, 16, blank)?)
+    Ok(after_six_steps::<P, L>(model, run, apart, 16, blank)?)
 }
 
 /// The runs that are left whole and those that are taken apart, each over the plain list and over
 /// heaps.
-fn stands(alloc: Global, model: &Model) -> Result<[Stand; 4], Refused>
+fn four_ways(alloc: Global, model: &Model) -> Result<[AfterSixSteps; 4], Refused>
     requires { PossibleModel (graph_of model.now) }
 {
     let vertices = model.vertices.len();
     let plain = PlainPending::begin(alloc, vertices);
-    let whole = stand_over::<PlainPending, Brand>(alloc, model, plain, false, Blank::new(1))?;
+    let whole = after_six_steps_over::<PlainPending, Brand>(
+        alloc,
+        model,
+        plain,
+        false,
+        Blank::new(1),
+    )?;
     let plain = PlainPending::begin(alloc, vertices);
-    let apart = stand_over::<PlainPending, Brand>(alloc, model, plain, true, Blank::new(1))?;
+    let apart = after_six_steps_over::<PlainPending, Brand>(
+        alloc,
+        model,
+        plain,
+        true,
+        Blank::new(1),
+    )?;
     let heaps = HeapPending::begin(alloc, vertices)?;
-    let heaped = stand_over::<HeapPending, Brand>(alloc, model, heaps, false, Blank::new(1))?;
+    let heaped = after_six_steps_over::<HeapPending, Brand>(
+        alloc,
+        model,
+        heaps,
+        false,
+        Blank::new(1),
+    )?;
     let heaps = HeapPending::begin(alloc, vertices)?;
-    let both = stand_over::<HeapPending, Brand>(alloc, model, heaps, true, Blank::new(1))?;
+    let both = after_six_steps_over::<HeapPending, Brand>(
+        alloc,
+        model,
+        heaps,
+        true,
+        Blank::new(1),
+    )?;
     Ok([whole, apart, heaped, both])
 }
 
 /// Whether all four runs of a text's model are so after six steps.
-fn all_stand(alloc: Global, text: &[u8], wanted: Stand) -> Result<bool, Refused> {
+fn all_end_so(alloc: Global, text: &[u8], wanted: AfterSixSteps) -> Result<bool, Refused> {
     let model = model_of(alloc, text)?;
     kept_models_can_be_run();
-    let stands = stands(alloc, &model);
+    let all = four_ways(alloc, &model);
     forget(model);
-    Ok(stands? == [wanted; 4])
+    Ok(all? == [wanted; 4])
 }
 
 /// The turn of an event of a vertex at this time.
@@ -143,7 +167,7 @@ fn ran(vertex: usize, time: u64) -> Turn {
 #[test]
 fn a_run_of_parts_goes_on_as_the_whole_one(rt: HostRuntime) -> Result<(), Fail> {
     let alloc = rt.alloc();
-    let clock = Stand {
+    let clock = AfterSixSteps {
         turns: [
             ran(0, 0),
             ran(0, 5),
@@ -157,8 +181,8 @@ fn a_run_of_parts_goes_on_as_the_whole_one(rt: HostRuntime) -> Result<(), Fail> 
         pending: 1,
         numbered: 5,
     };
-    assert!(rt; all_stand(alloc, CLOCK, clock)?);
-    let cut = Stand {
+    assert!(rt; all_end_so(alloc, CLOCK, clock)?);
+    let cut = AfterSixSteps {
         turns: [
             ran(0, 0),
             ran(1, 5),
@@ -172,8 +196,8 @@ fn a_run_of_parts_goes_on_as_the_whole_one(rt: HostRuntime) -> Result<(), Fail> 
         pending: 0,
         numbered: 4,
     };
-    assert!(rt; all_stand(alloc, CUT, cut)?);
-    let dice = Stand {
+    assert!(rt; all_end_so(alloc, CUT, cut)?);
+    let dice = AfterSixSteps {
         turns: [
             ran(0, 0),
             ran(0, 4),
@@ -187,7 +211,7 @@ fn a_run_of_parts_goes_on_as_the_whole_one(rt: HostRuntime) -> Result<(), Fail> 
         pending: 1,
         numbered: 6,
     };
-    assert!(rt; all_stand(alloc, DICE, dice)?);
+    assert!(rt; all_end_so(alloc, DICE, dice)?);
     Ok(())
 }
 

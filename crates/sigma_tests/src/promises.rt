@@ -1,5 +1,5 @@
-//! What the promises of a call give, job by job: what whoever has them knows of the bytes that were
-//! written. The clauses are theorems. The function that carries them does nothing.
+//! What the promises of a call say, job by job, about the bytes that were written.
+//! The clauses are theorems. The function that carries them does nothing.
 
 ghost use Rattle.std.specs.Prelude.{◌≡◌, ◌+◌, ◌≤◌, ℕ, true, false, List, [], ◌∷◌, codes};
 ghost use Rattle.sig_base.specs.declared.limits.TheConstants.{EVENTS_MAX};

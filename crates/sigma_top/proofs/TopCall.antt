@@ -70,7 +70,7 @@ of_input_text : (left : Option (List ℕ)) (text : List ℕ) (P : List ℕ → T
 of_input_text None text P same h = tt
 of_input_text (Some bytes) text P same h = subst P same h
 
--- ---- where memory lacks
+-- ---- where memory is refused
 
 in_any_case : (left : Option (List ℕ)) (P : List ℕ → Type 0) → ((text : List ℕ) → P text) → IfSome left P
 in_any_case None P holds = tt
@@ -210,7 +210,7 @@ module _ {S K E : Type 0} (source : S → Inlet) (sink : K → Outlet) (errors :
         given_is_such (jobs.Save options.until options.seed options.events options.starts) (models.Save options) refl (λ text out. SavesTheRun text out options)
         (λ text out end answers. law options text out end (limits (jobs.Save options.until options.seed options.events options.starts) asked) answers) status h asked is_done
 
-    -- where memory lacks nothing is written, unless the job may stop short
+    -- if memory is refused, nothing is written, unless the job may stop short
     pub writes_nothing : (job : Job) → job_of words ≡ Some job → (status : Status) → Ends source sink errors words i j o p e f status → status ≡ statuses.NoMemory → IsUntouched source sink i j o p (reading_of job)
     writes_nothing job asked status h is_short = untouched_unless source sink i j o p words job asked (subst (λ (s : Status). Ends source sink errors words i j o p e f s) is_short h).0
 

@@ -81,7 +81,7 @@ fn listed(alloc: Global, ranges: &[(i64, i64)]) -> Result<List<VarRange>, NoMemo
 }
 
 /// The answer about ranges for the counter that turns and its two neighbours.
-fn told(alloc: Global, ranges: &[(i64, i64)]) -> Result<RangeVerdict, NoMemory> {
+fn answer_about(alloc: Global, ranges: &[(i64, i64)]) -> Result<RangeVerdict, NoMemory> {
     let model = valid_model(alloc, TURNING)?;
     let ranges = listed(alloc, ranges)?;
     check_ranges(alloc, &model, &ranges)
@@ -127,9 +127,12 @@ fn the_first_range_that_fails_is_named(rt: HostRuntime) -> Result<(), Fail> {
         ([(0, 5), (3, 2), (0, 1000000)], RangeVerdict::Unfit),
         ([(0, 1001), (3, 3), (0, 1000000)], RangeVerdict::Unfit),
     ] {
-        assert_eq!(rt; told(rt.alloc(), ranges.as_slice())?, verdict);
+        assert_eq!(rt; answer_about(rt.alloc(), ranges.as_slice())?, verdict);
     }
-    assert_eq!(rt; told(rt.alloc(), [(0, 5)].as_slice())?, RangeVerdict::Unfit);
+    assert_eq!(rt;
+        answer_about(rt.alloc(), [(0, 5)].as_slice())?,
+        RangeVerdict::Unfit
+    );
     Ok(())
 }
 

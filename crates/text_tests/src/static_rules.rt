@@ -65,7 +65,7 @@ fn texts_that_say_their_version_are_read_at_once(rt: HostRuntime) {
 }
 
 /// A text with 256 arrays of 65,536 cells, which is as many as may be, and with this after them.
-fn with_most_cells(alloc: Global, behind: &[u8]) -> Result<Vec<u8>, NoMemory> {
+fn with_most_cells(alloc: Global, rest: &[u8]) -> Result<Vec<u8>, NoMemory> {
     let mut text = Vec::from_slice(alloc, b"version 2; model M; ")?;
     for first in b'A'..b'Q' {
         for second in b'A'..b'Q' {
@@ -75,7 +75,7 @@ fn with_most_cells(alloc: Global, behind: &[u8]) -> Result<Vec<u8>, NoMemory> {
             text.extend_from_slice(b"[65536] : 0..9 = 0; ")?;
         }
     }
-    text.extend_from_slice(behind)?;
+    text.extend_from_slice(rest)?;
     Ok(text)
 }
 

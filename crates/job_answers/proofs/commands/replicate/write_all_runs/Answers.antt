@@ -18,7 +18,7 @@ of_model : (s : ModelWithStarts) (m : Model) (options : ReplicateOptions) (numbe
     → tally ≡ tally_numbered (graph_of s.model) options number → tally ≡ tally_numbered (graph_of m) options number
 of_model s m options number tally of is = is ∙ ap (λ (s : ModelWithStarts). tally_numbered (graph_of s.model) options number) of
 
--- memory lacks for a tally
+-- memory is refused for a tally
 pub returns-in_err-tally : goal.returns-in_err-tally
 returns-in_err-tally g c =
     let seen = g.K.Sink.seen in
@@ -52,7 +52,7 @@ loop-number-preserved g c =
       ap (λ t. t.runs + 1) added ∙ omega (arith, c.loop-number.invariant.1),
     )
 
--- memory lacks for the rows of the totals
+-- memory is refused for the rows of the totals
 pub returns-in_err-totals_csv : goal.returns-in_err-totals_csv
 returns-in_err-totals_csv g c =
     let seen = g.K.Sink.seen in
