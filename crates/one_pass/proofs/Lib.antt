@@ -1,6 +1,5 @@
 mod AnyOrder
 mod FirstFaultError
-mod Sure
 mod PartsInTurn
 mod WholeReads
 mod Alike

@@ -98,12 +98,11 @@ fn take<T: Part>(
 {
     let begun = cursor.again();
     match T::take_sure(alloc, cursor, names, taken, is_two) {
-        Ok(part) => Ok(part),
         Err(NotRead::Unsure) => {
             *cursor = begun;
             T::take_checked(alloc, cursor, names, taken, is_two, fault)
         }
-        Err(NotRead::NoMemory) => Err(NotRead::NoMemory),
+        answer => answer,
     }
 }
 
