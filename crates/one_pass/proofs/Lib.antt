@@ -5,6 +5,7 @@ mod WholeReads
 mod Alike
 mod VerticesRead
 mod TextRead
+mod Sure
 mod SureOperands
 mod OperandsInTurn
 mod TargetsRead

@@ -81,35 +81,10 @@ pub(crate) trait Part: Drop {
     ghost some_tokens: { nullable format ≡ false };
 }
 
-/// Reads a part. Where it isn't sure that it breaks no static rule, it is read once more.
-#[inline(always)]
-fn take<T: Part>(
-    alloc: Global,
-    cursor: &mut Cursor<'_>,
-    names: &Names,
-    taken: &[List<Option<Kind>>],
-    is_two: bool,
-    fault: &mut FirstFault,
-) -> Result<T, NotRead>
-    ensures { IfOk result
-        (λ part. ReadChecked T.format (meaning_of names.now)
-        (T.faults is_two (meaning_of names.now) taken.now) T.number fault.old fault.new
-        cursor.old cursor.new (T.plain part)) }
-{
-    let begun = cursor.again();
-    match T::take_sure(alloc, cursor, names, taken, is_two) {
-        Err(NotRead::Unsure) => {
-            *cursor = begun;
-            T::take_checked(alloc, cursor, names, taken, is_two, fault)
-        }
-        answer => answer,
-    }
-}
-
 /// How many parts a list has room for at first, where one comes. Room that isn't used is given back.
 const FIRST_ROOM: usize = 16;
 
-/// Reads parts as long as one comes.
+/// Reads parts as long as one comes. Where it isn't sure that a part breaks no static rule, it is read once more.
 pub(crate) fn take_all<T: Part>(
     alloc: Global,
     cursor: &mut Cursor<'_>,
@@ -126,7 +101,15 @@ pub(crate) fn take_all<T: Part>(
     let room = if T::begins(cursor) { FIRST_ROOM } else { 0 };
     let mut parts = List::from_vec(Vec::with_capacity(alloc, room)?);
     while T::begins(cursor) {
-        parts.push(take(alloc, cursor, names, taken, is_two, fault)?)?;
+        let begun = cursor.again();
+        match T::take_sure(alloc, cursor, names, taken, is_two) {
+            Ok(part) => parts.push(part)?,
+            Err(NotRead::Unsure) => {
+                *cursor = begun;
+                parts.push(T::take_checked(alloc, cursor, names, taken, is_two, fault)?)?;
+            }
+            Err(NotRead::NoMemory) => return Err(NotRead::NoMemory),
+        }
     }
     Ok(packed(parts))
 }
