@@ -1,6 +1,6 @@
 //! Tables of weighted values, and the values that an event carries.
 
-ghost use Rattle.std.specs.Prelude.{◌≡◌, ℕ, ◌*◌, ◌/◌, ◌-◌, ◌<◌, ◌≤◌, ◌^◌, length, map, min, sum, slice_index_or, IfOk};
+ghost use Rattle.std.specs.Prelude.{◌≡◌, ◌*◌, ◌/◌, ◌-◌, ◌<◌, ◌≤◌, ◌^◌, length, map, min, sum, slice_index_or, IfOk};
 ghost use Rattle.std.specs.Int.{leading_zeros, w32};
 ghost use Rattle.sig_base.specs.Stream.{share, weighted_pick};
 ghost use Rattle.sig_base.specs.RunningSums.{running_sums, AtMostBefore, StartsAt};
