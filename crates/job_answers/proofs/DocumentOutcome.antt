@@ -80,8 +80,8 @@ document_outcome text = cut_outcome text (tokens_of text)
 spelled_outcome : (text : List ℕ) (first second : WrittenModel) (applications : List RuleApplication) → SpellsDocument text first applications second → document_outcome text ≡ static_outcome (first, applications, second)
 spelled_outcome text first second applications s =
     ap (cut_outcome text) s.cut
-    ∙ ap (and_then static_outcome) (ap (and_then (behind_first text)) (front_begun text s.tokens first s.behind_first s.begins) ∙ ap (and_then (behind_second text first)) (front_begun text s.behind_first second s.behind_second s.goes_on)
-    ∙ ap (and_then (λ applications. Ok (first, applications, second))) (certificate_read text s.behind_second applications s.ends (certificate_decided text s.behind_second)))
+    ∙ ap (and_then static_outcome) (ap (and_then (behind_first text)) (front_begun text s.tokens first s.after_first s.begins) ∙ ap (and_then (behind_second text first)) (front_begun text s.after_first second s.after_second s.goes_on)
+    ∙ ap (and_then (λ applications. Ok (first, applications, second))) (certificate_read text s.after_second applications s.ends (certificate_decided text s.after_second)))
 
 module _ (laws : FaultLaws) (text : List ℕ) where
   complaint_outcome : (what : Complaint) (at : ℕ) → IsDocumentComplaint text what at → document_outcome text ≡ Err (what, at)
@@ -138,7 +138,7 @@ module _ (laws : FaultLaws) (text : List ℕ) where
 
     by_certificate : (tokens : List Lexeme) → tokens_of text ≡ Ok tokens → (a : FrontModel tokens) (b : FrontModel a.left) → CertificateDecision text b.left → DocumentOrComplaint
     by_certificate tokens cut a b (inl spelled) =
-        by_first a.model b.model spelled.0 (record { tokens = tokens; cut = cut; behind_first = a.left; begins = a.begins; behind_second = b.left; goes_on = b.begins; ends = spelled.1 }) (first_fault a.model) refl
+        by_first a.model b.model spelled.0 (record { tokens = tokens; cut = cut; after_first = a.left; begins = a.begins; after_second = b.left; goes_on = b.begins; ends = spelled.1 }) (first_fault a.model) refl
     by_certificate tokens cut a b (inr wrong) = inl (complaints.Unexpected, wrong.0, of_tokens tokens cut (in_certificate a.model b.model a.left b.left a.begins b.begins refl wrong.1))
 
     by_second_front : (tokens : List Lexeme) → tokens_of text ≡ Ok tokens → (a : FrontModel tokens) → FrontModel a.left ⊎ FrontFault text a.left → DocumentOrComplaint

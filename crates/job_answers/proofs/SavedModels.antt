@@ -18,8 +18,8 @@ pub saved_model_valid : (text : List ℕ) (g : EventGraph) (s : SavedRun) → Re
 saved_model_valid text g s reads =
     let spells = reads.spells in
     let tokens = spells.tokens in
-    let front = front-is_text tokens reads.model spells.behind spells.begins.derived in
-    let good = every-front _ (front_to_end tokens) spells.behind (subst GoodTokens front.0 (tokens_good text tokens spells.cut)) in
+    let front = front-is_text tokens reads.model spells.after spells.begins.derived in
+    let good = every-front _ (front_to_end tokens) spells.after (subst GoodTokens front.0 (tokens_good text tokens spells.cut)) in
     let by_itself = (accepted_by_itself reads.model g).0 reads.accepted in
     (by_parts g).1 (by_itself.1, derived-spellable (front_to_end tokens) reads.model g good front.1 spells.begins.few_openings by_itself.0)
 

@@ -89,7 +89,7 @@ module _ (laws : FaultLaws) (snapshots : SnapshotLaws) (text : List ℕ) where
   spelled_outcome : (m : WrittenModel) (w : WrittenSnapshot) → SpellsSaved text m w → saved_outcome ≡ good_outcome (m, w)
   spelled_outcome m w s =
       ap cut_outcome s.cut
-      ∙ ap (and_then good_outcome) (ap (and_then behind_model) (front_begun text s.tokens m s.behind s.begins) ∙ ap (and_then (λ (w : WrittenSnapshot). Ok (m, w))) (snapshot_read s.behind w s.ends (snapshots.decided text s.behind)))
+      ∙ ap (and_then good_outcome) (ap (and_then behind_model) (front_begun text s.tokens m s.after s.begins) ∙ ap (and_then (λ (w : WrittenSnapshot). Ok (m, w))) (snapshot_read s.after w s.ends (snapshots.decided text s.after)))
 
   -- a model that is accepted has no fault, and its snapshot is looked at
   accepted_outcome : (m : WrittenModel) (w : WrittenSnapshot) (g : EventGraph) → SpellsSaved text m w → Accepted m g → saved_outcome ≡ unless_bad (bad_at g w) (Ok (m, w))
@@ -146,7 +146,7 @@ module _ (laws : FaultLaws) (snapshots : SnapshotLaws) (text : List ℕ) where
     by_model m w s (Some f) e = inl (complaints.Static f.kind, f.at, of_model m w s f.kind refl ((laws.first_is_fault m f).0 e))
 
     by_snapshot : (tokens : List Lexeme) → tokens_of text ≡ Ok tokens → (a : FrontModel tokens) → SnapshotDecision text a.left → SavedOrComplaint
-    by_snapshot tokens cut a (inl spelled) = by_model a.model spelled.0 (record { tokens = tokens; cut = cut; behind = a.left; begins = a.begins; ends = spelled.1 }) (first_fault a.model) refl
+    by_snapshot tokens cut a (inl spelled) = by_model a.model spelled.0 (record { tokens = tokens; cut = cut; after = a.left; begins = a.begins; ends = spelled.1 }) (first_fault a.model) refl
     by_snapshot tokens cut a (inr wrong) = inl (complaints.Unexpected, wrong.0, of_saved_tokens tokens cut (in_snapshot a.model a.left a.begins refl wrong.1))
 
     by_front : (tokens : List Lexeme) → tokens_of text ≡ Ok tokens → FrontModel tokens ⊎ FrontFault text tokens → SavedOrComplaint

@@ -54,9 +54,9 @@ document_read accepts {text} {tokens} {left} {last} {first} {second} {applicatio
   spells = record {
     tokens = tokens;
     cut = cut;
-    behind_first = left;
+    after_first = left;
     begins = record { derived = read-is_spelled tokens first left reads_first; few_openings = none-is_few OPENINGS_MAX (front_to_end tokens) few_first };
-    behind_second = last;
+    after_second = last;
     goes_on = record { derived = read-is_spelled left second last reads_second; few_openings = none-is_few OPENINGS_MAX (front_to_end left) few_second };
     ends = all-is_spelled certificate_format last applications [] reads_certificate;
   };

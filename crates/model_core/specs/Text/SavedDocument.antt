@@ -12,6 +12,6 @@ use Rattle.model_core.specs.Text.SnapshotGrammar.{WrittenSnapshot, IsSnapshot}
 pub record SpellsSaved (text : List ℕ) (m : WrittenModel) (s : WrittenSnapshot) : Type 0 where
   pub tokens : List Lexeme
   pub cut : tokens_of text ≡ Ok tokens
-  pub behind : List Lexeme
-  pub begins : BeginsWithModel tokens m behind
-  pub ends : IsSnapshot behind s
+  pub after : List Lexeme
+  pub begins : BeginsWithModel tokens m after
+  pub ends : IsSnapshot after s

@@ -25,7 +25,7 @@ returns-in-Err-clause-complaint c = λ what at e.
     let pieces = c.args.pieces.now in
     let snapshot = c.in_ok-raw.ensures.ends in
     static_complaint_is (IsSavedComplaint pieces.text.now) c.in-Err.error
-    (λ kind i is. of_model (written_model c.in_ok-raw.raw) snapshot.0 (record { tokens = pieces_lexemes pieces; cut = pieces.are_its; behind = drop c.in_ok-raw.behind (pieces_lexemes pieces); begins = c.in_ok-raw.ensures.begins; ends = snapshot.1 }) kind refl
+    (λ kind i is. of_model (written_model c.in_ok-raw.raw) snapshot.0 (record { tokens = pieces_lexemes pieces; cut = pieces.are_its; after = drop c.in_ok-raw.behind (pieces_lexemes pieces); begins = c.in_ok-raw.ensures.begins; ends = snapshot.1 }) kind refl
     (c.in-Err.ensures.refused kind i (ap (λ x. Err x) is)))
     what at (sym c.from.ensures ∙ one_error c.from.result (At what at) e)
 
@@ -38,7 +38,7 @@ returns-in-Ok-read_snapshot_pieces-clause-ok c =
       fits = c.requires;
       model = written_model c.in_ok-raw.raw;
       snapshot = snapshot.0;
-      spells = record { tokens = pieces_lexemes pieces; cut = pieces.are_its; behind = drop c.in_ok-raw.behind (pieces_lexemes pieces); begins = c.in_ok-raw.ensures.begins; ends = snapshot.1 };
+      spells = record { tokens = pieces_lexemes pieces; cut = pieces.are_its; after = drop c.in_ok-raw.behind (pieces_lexemes pieces); begins = c.in_ok-raw.ensures.begins; ends = snapshot.1 };
       accepted = c.in-Ok.ensures.accepted;
       good = good.0;
       means = sym good.1;
@@ -50,5 +50,5 @@ returns-in-Err-Bad-clause-complaint c = λ what at e.
     let place = c.in-Err-Bad.at in
     let snapshot = c.in_ok-raw.ensures.ends in
     same_complaint (IsSavedComplaint pieces.text.now) complaints.BadSnapshot what place at (one_error (At complaints.BadSnapshot place) (At what at) e)
-    (of_snapshot (written_model c.in_ok-raw.raw) snapshot.0 (record { tokens = pieces_lexemes pieces; cut = pieces.are_its; behind = drop c.in_ok-raw.behind (pieces_lexemes pieces); begins = c.in_ok-raw.ensures.begins; ends = snapshot.1 })
+    (of_snapshot (written_model c.in_ok-raw.raw) snapshot.0 (record { tokens = pieces_lexemes pieces; cut = pieces.are_its; after = drop c.in_ok-raw.behind (pieces_lexemes pieces); begins = c.in_ok-raw.ensures.begins; ends = snapshot.1 })
     (graph_of c.in-Ok.model) c.in-Ok.ensures.accepted refl (c.read_snapshot_pieces.ensures.bad place (c.in-Err-Bad.is ∙ ap (λ x. Err x) c.in-Err-Bad.field-0-is) snapshot.0 snapshot.1))
