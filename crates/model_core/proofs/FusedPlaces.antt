@@ -6,7 +6,7 @@ use Rattle.model_core.specs.EventGraph.{EventEdge}
 use Rattle.model_core.specs.Rules.Drop.{edge_renumbered}
 use Rattle.model_core.specs.Rules.MarkedPlaces.{place_without}
 use Rattle.model_core.specs.Rules.Fuse.{standing_for, fused_place}
-use Rattle.model_core.proofs.PlacesChanged.{suc-apart, apart-turned}
+use Rattle.model_core.proofs.PlacesChanged.{different, suc-apart, apart-turned}
 use Rattle.model_core.proofs.PlacesTakenOff.{without-first, without-behind, get-without}
 
 -- ---- without one place
@@ -47,14 +47,11 @@ module _ (keep gone : ℕ) (first : keep < gone) where
   abbrev f : ℕ → ℕ
   f = fused_place keep gone
 
-  keep-apart : (keep == gone) ≡ false
-  keep-apart = grind (arith, nat_tests)
-
   -- no part names `gone` any more
   pub standing-apart : (v : ℕ) → (s v == gone) ≡ false
   standing-apart v = by (v == gone) refl where
     by : (b : Bool) → (v == gone) ≡ b → (cond b keep v == gone) ≡ false
-    by true is = keep-apart
+    by true is = different keep gone first
     by false is = is
 
   pub standing-itself : (v : ℕ) → (v == gone) ≡ false → s v ≡ v
