@@ -13,7 +13,7 @@ use Rattle.use_analysis.specs.declared.moving.Stamped.{Stamped}
 use Rattle.use_analysis.specs.declared.moving.Way.{Way}
 use Rattle.use_analysis.specs.declared.moving.Way.TheVariants as ways
 use Rattle.use_analysis.specs.declared.moving.Part.{Part}
-use Rattle.use_analysis.specs.UseNumbers.{UseNumbers, changed_where, raised_at, lowered_at, CanRaise}
+use Rattle.use_analysis.specs.UseNumbers.{UseNumbers, changed_where, raised_at, CanRaise}
 use Rattle.use_analysis.specs.Inner.Moving.{shifted, moved_number, moved_at, numbers_of, StampedTo, StampedBelow, nothing_stamped, without_stamp}
 
 -- the variables of two parts of a part are walked one after the other
@@ -129,7 +129,7 @@ module _ (part : Part) (vs : List ℕ) {items lent now : List Stamped} {count : 
   pub part_stamped : {last : ℕ} → last ≡ part.stamp → StampedTo last (take count (now ++ drop (length now) items))
   part_stamped is = subst (λ n. StampedTo n (take count (now ++ drop (length now) items))) (sym is) (subst (StampedTo part.stamp) (sym given_back) (part_stamps part vs items new))
 
--- ---- up and down by one
+-- ---- up by one
 
 changed_alike : (test : ℕ → Bool) (f g : ℕ → ℕ) (a : ℕ) (ns : List ℕ) → ((k t : ℕ) → a + k ≡ t → k < length ns → test t ≡ true → f (slice_index ns k) ≡ g (slice_index ns k)) → changed_where test f a ns ≡ changed_where test g a ns
 changed_alike test f g a [] same = refl
@@ -143,9 +143,6 @@ pub numbers_raised : (vars ns : List ℕ) → CanRaise vars ns → changed_where
 numbers_raised vars ns can =
     changed_alike (is_among vars) (shifted ways.Up) (λ n. n + 1) 0 ns
     (λ k t is below among. let few = can k below (ap (is_among vars) (omega (arith, is)) ∙ among) in omega (arith, few))
-
-pub numbers_lowered : (vars ns : List ℕ) → changed_where (is_among vars) (shifted ways.Down) 0 ns ≡ lowered_at vars ns
-numbers_lowered vars ns = refl
 
 -- ---- walks over lists of parts of a part
 
@@ -174,10 +171,6 @@ wiped_stamps (x ∷ xs) = (omega arith, wiped_stamps xs)
 pub nothing_numbered : (count : ℕ) → numbers_of (nothing_stamped count) ≡ replicate count 0
 nothing_numbered zero = refl
 nothing_numbered (suc count) = ap (λ ns. 0 ∷ ns) (nothing_numbered count)
-
-pub nothing_stamped_to : (count : ℕ) → StampedTo 0 (nothing_stamped count)
-nothing_stamped_to zero = tt
-nothing_stamped_to (suc count) = (omega arith, nothing_stamped_to count)
 
 -- the number at a place, whatever a place beyond the end gives
 pub read_there : (xs : List Stamped) (k : ℕ) (d : Stamped) → get_or xs k d ≡ get_or xs k (get_or xs k d)

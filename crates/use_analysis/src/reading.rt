@@ -1,7 +1,7 @@
 //! Whether a variable is read by an edge, a change or a vertex. Nothing here takes memory.
 #![tactic(auto, using(model_core::proofs::AmongUses::among_parts))]
 
-ghost use Rattle.std.specs.Prelude.{◌≡◌, [], map, Some};
+ghost use Rattle.std.specs.Prelude.{◌≡◌, [], map};
 ghost use Rattle.std.specs.List.{flat_map};
 ghost use Rattle.std.specs.Option.{option_map_or};
 ghost use Rattle.model_core.specs.EventGraph.{delay_given};
