@@ -1,6 +1,6 @@
 -- Urgent edges whose conditions are refuted exclude all others. Those that compare one and the same with numbers exclude each
 -- other by the numbers alone.
-use Rattle.std.proofs.Common.{◌≡◌, ℤ, Bool, true, false, not, ◌&&◌, ◌||◌, cond, List, [], ◌∷◌, ◌++◌, ℕ, zero, suc, map, filter, take, drop, slice_get, length, ◌+◌, ◌≤◌, Option, Some, None, option_map, arith, refl, sym, ◌∙◌, ap, ap₂}
+use Rattle.std.proofs.Common.{◌≡◌, ℤ, Bool, true, false, not, ◌&&◌, ◌||◌, cond, List, [], ◌∷◌, ℕ, zero, suc, map, filter, take, drop, slice_get, length, ◌+◌, ◌≤◌, Option, Some, None, option_map, arith, refl, sym, ◌∙◌, ap, ap₂}
 use Rattle.std.specs.List.{list_all, list_any, remove}
 use Rattle.std.specs.Option.{option_map_or, option_and_then}
 use Rattle.std.proofs.lemmas.List.{take-map, drop-map}
@@ -120,14 +120,6 @@ module _ (g : EventGraph) where
   -- if all live edges compare one and the same with numbers, these decide whether any two exclude each other
   pub never_both-urgent : (left : Expression) (es : List EventEdge) (all : List Compared) → AreCompared g left es all → each_pair never_both all ≡ each_pair (exclusive g) (urgent_conditions es)
   never_both-urgent left es all alike = sym (each_pair-never_both left (live_conditions g es) all (lives es) alike) ∙ sym (pairs_live es)
-
-  -- one more edge
-  pub one_more : (left : Expression) (e : EventEdge) (es : List EventEdge) (x : Compared) (all : List Compared) → is_live g e ≡ true → comparison_of e.condition ≡ Some (comparison_with left x)
-      → map (λ (c : Compared). Some (comparison_with left c)) (all ++ x ∷ []) ++ map comparison_of (live_conditions g es) ≡ map (λ (c : Compared). Some (comparison_with left c)) all ++ map comparison_of (live_conditions g (e ∷ es))
-  one_more left e es x [] live is =
-      ap (λ c. c ∷ map comparison_of (live_conditions g es)) (sym is)
-      ∙ sym (ap (λ (b : Bool). map comparison_of (map (λ (e : EventEdge). e.condition) (cond b (e ∷ filter (is_live g) es) (filter (is_live g) es)))) live)
-  one_more left e es x (y ∷ all) live is = ap (λ cs. Some (comparison_with left y) ∷ cs) (one_more left e es x all live is)
 
   -- an edge that isn't live excludes all others
   pub each_pair-not_live : (e : EventEdge) (es : List EventEdge) → is_live g e ≡ false → each_pair (exclusive g) (urgent_conditions (e ∷ es)) ≡ each_pair (exclusive g) (urgent_conditions es)

@@ -1,7 +1,7 @@
 //! Urgent edges whose conditions compare one and the same with numbers: the numbers alone decide which exclude each other.
 #![tactic(auto, using(model_core::proofs::SignedBits::signed_bits))]
 
-ghost use Rattle.std.specs.Prelude.{◌≡◌, ◌&&◌, not, map, Some};
+ghost use Rattle.std.specs.Prelude.{◌≡◌, map, Some};
 ghost use Rattle.std.specs.List.{list_all};
 ghost use Rattle.std.specs.Option.{IfSome, is_some, option_map};
 ghost use Rattle.model_core.specs.EventGraph.{Expression, Binary};

@@ -1,9 +1,9 @@
 //! Conditions of which at most one is true.
 #![tactic(auto, using(model_core::proofs::SignedBits::signed_bits))]
 
-ghost use Rattle.std.specs.Prelude.{◌≡◌, ℤ, pos, ◌+ℤ◌, ◌&&◌, ◌||◌, IfSome};
+ghost use Rattle.std.specs.Prelude.{◌≡◌, ℤ, pos, ◌+ℤ◌, ◌||◌, IfSome};
 ghost use Rattle.model_core.specs.EventGraph.{Binary};
-ghost use Rattle.model_core.specs.Rules.Exclusive.{same_expression, compares, is_comparison, number_literal, literal_number, comparison_of, some_meets_both, is_negation_of, compare_apart, exclusive};
+ghost use Rattle.model_core.specs.Rules.Exclusive.{same_expression, compares, is_comparison, number_literal, literal_number, comparison_of, is_negation_of, compare_apart, exclusive};
 ghost use Rattle.model_core.specs.Code.Views.{graph_of, expression_of, operator_of};
 ghost use Rattle.range_bounds.specs.Near.{IsNear, both_meet, one_beside_meets};
 
