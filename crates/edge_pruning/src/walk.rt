@@ -1,26 +1,14 @@
 //! The walk over the vertices that can be reached: from the first one and the watched ones to the targets of edges.
 
-ghost use Rattle.std.specs.Prelude.{◌≡◌, ◌∷◌, map, slice_get, slice_index_or, IfOk};
-ghost use Rattle.model_core.specs.Code.Views.{graph_of, vertex_of, edge_of, watched_of};
-ghost use Rattle.model_core.specs.Run.Step.{no_vertex};
+ghost use Rattle.std.specs.Prelude.{◌≡◌, ◌∷◌, map, slice_get, IfOk};
+ghost use Rattle.model_core.specs.Code.Views.{graph_of, edge_of, watched_of};
 ghost use Rattle.model_core.specs.Rules.Reached.{reached_marks};
 ghost use Rattle.edge_pruning.specs.Inner.Walk.{targets_of, watched_vertices};
 
 use marked_walks::{PlaceSuccessors, entailed};
-use model_core::{Edge, Model, Vertex, Watch};
+use model_core::{Edge, Model, Watch};
 use sig_base::NoMemory;
 use std::alloc::Global;
-
-/// The edges of the vertex at this place.
-fn edges_at(vertices: &[Vertex], place: usize) -> &[Edge]
-    ensures { map edge_of result.now
-        ≡ (slice_index_or (map vertex_of vertices.now) place no_vertex).edges }
-{
-    match vertices.get(place) {
-        Some(vertex) => vertex.edges.as_slice(),
-        None => &[],
-    }
-}
 
 /// Where the edge at this place leads.
 fn target_at(edges: &[Edge], place: usize) -> Option<usize>
@@ -35,26 +23,25 @@ fn target_at(edges: &[Edge], place: usize) -> Option<usize>
 /// For each vertex the targets of its edges.
 #[derive(Clone, Copy)]
 struct Targets<'a> {
-    vertices: &'a [Vertex],
+    model: &'a Model,
 }
 
 impl<'a> PlaceSuccessors for Targets<'a> {
-    ghost use Rattle.std.specs.Prelude.{map};
-    ghost use Rattle.model_core.specs.Code.Views.{vertex_of};
+    ghost use Rattle.model_core.specs.Code.Views.{graph_of};
     ghost use Rattle.edge_pruning.specs.Inner.Walk.{targets_by_vertex};
 
-    ghost lists = { λ t. targets_by_vertex (map vertex_of t.vertices.now) };
+    ghost lists = { λ t. targets_by_vertex (graph_of t.model.now).vertices };
 
     fn place_count(&self) -> usize {
-        self.vertices.len()
+        self.model.vertices.len()
     }
 
     fn successor_count(&self, place: usize) -> usize {
-        edges_at(self.vertices, place).len()
+        self.model.edges_at(place).len()
     }
 
     fn nth_successor(&self, place: usize, nth: usize) -> Option<usize> {
-        target_at(edges_at(self.vertices, place), nth)
+        target_at(self.model.edges_at(place), nth)
     }
 }
 
@@ -77,8 +64,6 @@ pub(crate) fn reached(alloc: Global, model: &Model) -> Result<Vec<bool>, NoMemor
     ensures { IfOk result (λ marks. marks.items ≡ reached_marks (graph_of model.now)) }
 {
     let first = first_places(alloc, model.watch.as_slice())?;
-    let targets = Targets {
-        vertices: model.vertices.as_slice(),
-    };
+    let targets = Targets { model };
     entailed(alloc, first.as_slice(), &targets)
 }

@@ -1,15 +1,15 @@
 //! The first two vertices that may be merged, found again and again: after a merge, or the drop that follows it, only what can
 //! have changed is looked at again.
 
-ghost use Rattle.std.specs.Prelude.{◌≡◌, ◌<◌, [], ◌∷◌, true, false, None, Some, map, length, slice_index_or, IfOk, OnOk};
+ghost use Rattle.std.specs.Prelude.{◌≡◌, ◌<◌, [], ◌∷◌, true, false, None, Some, map, length, IfOk, OnOk};
 ghost use Rattle.model_core.specs.EventGraph.{EventGraph};
-ghost use Rattle.model_core.specs.Run.Step.{no_vertex, vertex_at};
+ghost use Rattle.model_core.specs.Run.Step.{vertex_at};
 ghost use Rattle.model_core.specs.Static.Reading.{IsValid};
 ghost use Rattle.model_core.specs.Rules.Conditions.{first_failed};
 ghost use Rattle.model_core.specs.Rules.Drop.{dropped};
 ghost use Rattle.model_core.specs.Rules.UrgentEdges.{single_urgent};
 ghost use Rattle.model_core.specs.Rules.Merge.{is_watched_vertex, merge_conditions, merged, merge_at, first_merge};
-ghost use Rattle.model_core.specs.Code.Views.{graph_of, edge_of, vertex_of};
+ghost use Rattle.model_core.specs.Code.Views.{graph_of, edge_of};
 ghost use Rattle.merge_rules.specs.FactsOfModel.{FactsAreRight};
 ghost use Rattle.merge_rules.specs.NothingCounted.{NothingCounted};
 ghost use Rattle.merge_rules.specs.PairFits.{target_at_once, acts_unseen, pair_fits};
@@ -24,7 +24,7 @@ use crate::kept_pairs::{
 };
 use crate::law::merging_keeps_the_meaning;
 use crate::within_limits::{has_short_text, keeps_few_parts};
-use model_core::{Edge, Model, Vertex, is_watched};
+use model_core::{Edge, Model, is_watched};
 use round_trip::validity_is_by_parts;
 use sig_base::NoMemory;
 use std::alloc::Global;
@@ -44,17 +44,6 @@ impl std::marker::Model for KeptPairs {
     ghost Value = { List KeptPair };
 
     ghost view = { λ k. k.pairs.items };
-}
-
-/// The edges of the vertex at this place.
-fn edges_at(vertices: &[Vertex], place: usize) -> &[Edge]
-    ensures { map edge_of result.now
-        ≡ (slice_index_or (map vertex_of vertices.now) place no_vertex).edges }
-{
-    match vertices.get(place) {
-        Some(vertex) => vertex.edges.as_slice(),
-        None => &[],
-    }
 }
 
 /// Whether the two fit: a vertex and the target of its plain urgent edge, in a single urgent model. The caller may know whether
@@ -327,8 +316,7 @@ impl KeptPairs {
         requires holds { first_failed (merge_conditions (graph_of model.now) first second) ≡ None }
         ensures { OnOk result (PairsAreRight (merged (graph_of model.now) first second) self.new) }
     {
-        let edges = edges_at(model.vertices.as_slice(), second);
-        take_over_pairs(&mut self.pairs, first, second, edges)
+        take_over_pairs(&mut self.pairs, first, second, model.edges_at(second))
     }
 
     /// Notes the drop of a vertex that has these edges, to which no edge leads and which isn't watched.
@@ -356,6 +344,6 @@ impl KeptPairs {
             (dropped (merged (graph_of model.now) first second) (second ∷ [])) self.new }
     {
         merging_keeps_the_meaning();
-        self.take_away(edges_at(model.vertices.as_slice(), second), second);
+        self.take_away(model.edges_at(second), second);
     }
 }

@@ -1,10 +1,9 @@
 -- The second one is as it was before the merge.
-use Rattle.std.proofs.Common.{◌≡◌, ◌∙◌, map, sym, ap, slice_index_or, List, arith}
-use Rattle.model_core.specs.declared.vertex.Vertex.{Vertex}
+use Rattle.std.proofs.Common.{◌≡◌, ◌∙◌, map, sym, ap, arith}
 use Rattle.model_core.specs.EventGraph.{EventVertex}
-use Rattle.model_core.specs.Run.Step.{no_vertex, vertex_at}
+use Rattle.model_core.specs.Run.Step.{vertex_at}
 use Rattle.model_core.specs.Rules.Merge.{merged}
-use Rattle.model_core.specs.Code.Views.{graph_of, vertex_of, edge_of}
+use Rattle.model_core.specs.Code.Views.{graph_of, edge_of}
 use Rattle.merge_rules.proofs.HollowedText.{second_there, second_stays}
 use Rattle.merge_rules.proofs.OneStepForTwo.MergeHolds.{conditions_hold}
 use Rattle.merge_rules.proofs.kept_search.KeptPairs.note_drop_after_merge.Goals as goal
@@ -20,5 +19,5 @@ returns c =
     let a = c.args.first in
     let b = c.args.second in
     let edges : map edge_of c.edges_at.result.now ≡ (vertex_at (merged g a b) b).edges =
-    c.edges_at.ensures ∙ ap (λ (vs : List Vertex). (slice_index_or (map vertex_of vs) b no_vertex).edges) c.as_slice.ensures ∙ sym (ap (λ (v : EventVertex). v.edges) (second_stays g a b c.requires.holds)) in
+    c.edges_at.ensures ∙ sym (ap (λ (v : EventVertex). v.edges) (second_stays g a b c.requires.holds)) in
     c.take_away.ensures (merged g a b) c.requires.kept (c.merging_keeps_the_meaning.ensures.valid g a b c.requires.valid c.requires.holds) c.requires.unled (conditions_hold g a b c.requires.holds).target_unwatched edges
