@@ -149,16 +149,6 @@ pub(crate) fn put_tables(out: &mut Vec<u8>, tables: &[Table]) -> Result<(), NoMe
     Ok(())
 }
 
-/// The name of what is watched.
-fn watched_name(model: &Model, watch: Watch) -> &[u8]
-    ensures { result.now ≡ watched_name (graph_of model.now) (watched_of watch) }
-{
-    match watch {
-        Watch::Variable { var } => model.variable_name(var),
-        Watch::Event { vertex } => model.vertex_name(vertex),
-    }
-}
-
 /// Adds the names of what is watched, each after a comma and a space.
 fn put_later_watched(out: &mut Vec<u8>, model: &Model, watch: &[Watch]) -> Result<(), NoMemory>
     ensures { OnOk result
@@ -167,7 +157,7 @@ fn put_later_watched(out: &mut Vec<u8>, model: &Model, watch: &[Watch]) -> Resul
         ++ after_commas (map (watched_name (graph_of model.now)) (map watched_of watch.now))) }
 {
     for watched in watch {
-        put_texts(out, &[b", ", watched_name(model, *watched)])?;
+        put_texts(out, &[b", ", model.watched_name(*watched)])?;
     }
     Ok(())
 }
@@ -182,7 +172,7 @@ fn put_watched(out: &mut Vec<u8>, model: &Model, watch: &[Watch]) -> Result<(), 
     let [first, rest @ ..] = watch else {
         return Ok(());
     };
-    put_bytes(out, watched_name(model, *first))?;
+    put_bytes(out, model.watched_name(*first))?;
     put_later_watched(out, model, rest)
 }
 

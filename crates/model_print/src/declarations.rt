@@ -7,7 +7,6 @@ ghost use Rattle.model_core.specs.Text.Canonical.{size_text, clip_text, initial_
 ghost use Rattle.model_core.specs.Code.Views.{graph_of, variable_of, weighted_of, table_of, watched_of};
 
 use crate::expressions::put_truth;
-use crate::names::{put_variable_name, put_vertex_name};
 use crate::pen::{Pen, put_comma, put_number, put_signed};
 use model_core::{Kind, Model, Var, Watch};
 use sig_base::{Row, Table};
@@ -133,10 +132,7 @@ pub(crate) fn put_tables<P: Pen>(out: &mut P, tables: &[Table])
 fn put_watched<P: Pen>(out: &mut P, model: &Model, watch: Watch)
     ensures { P.adds out.old out.new (watched_name (graph_of model.now) (watched_of watch)) }
 {
-    match watch {
-        Watch::Variable { var } => put_variable_name(out, model, var),
-        Watch::Event { vertex } => put_vertex_name(out, model, vertex),
-    }
+    out.put_bytes(model.watched_name(watch));
 }
 
 /// Puts the names of what is watched, with a comma and a space between two.
