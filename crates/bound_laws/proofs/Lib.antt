@@ -1,3 +1,4 @@
 pub mod BeginsInRange
 pub mod Soundness
 pub mod NoGuard
+pub mod LiteralValues

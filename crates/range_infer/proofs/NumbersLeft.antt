@@ -1,14 +1,11 @@
 -- A number for which a comparison is true, or false, lies among the numbers that are left.
-use Rattle.std.proofs.Common.{◌≡◌, ℕ, ◌-◌, ◌^◌, ℤ, pos, neg_ℤ, ◌+ℤ◌, ◌-ℤ◌, ◌≤ℤ◌, int_le, int_lt, Bool, true, false, not, cond, Some, Ok, Err, refl, ap, arith}
+use Rattle.std.proofs.Common.{◌≡◌, ℤ, pos, ◌+ℤ◌, ◌-ℤ◌, ◌≤ℤ◌, int_le, int_lt, Bool, true, false, not, cond, Ok, refl, ap, arith}
 use Rattle.std.specs.Ordering.{int_eq}
 use Rattle.std.proofs.lemmas.Int.{ints, clamps}
 use Rattle.std.specs.Int.Signed.{≤ℤ_refl}
-use Rattle.sig_base.specs.declared.fault.FaultKind.TheVariants as faults
 use Rattle.sig_base.proofs.Tests.{true-int_le}
-use Rattle.model_core.specs.EventGraph.{EventGraph, Expression, Number, Negative, Operator, Equal, NotEqual, Below, AtMost, Above, AtLeast}
-use Rattle.model_core.specs.Run.State.{State, within}
-use Rattle.model_core.specs.Run.Value.{number_of, exact, operate, value_of}
-use Rattle.model_core.specs.Rules.Exclusive.{number_literal, literal_number}
+use Rattle.model_core.specs.EventGraph.{Operator, Equal, NotEqual, Below, AtMost, Above, AtLeast}
+use Rattle.model_core.specs.Run.Value.{number_of, operate}
 use Rattle.bound_laws.proofs.Soundness.Ends.{lt_of, of_not_lt, of_not_le}
 use Rattle.model_core.specs.declared.var_range.VarRange.{VarRange}
 use Rattle.model_core.specs.Ranges.OtherRanges.{LiesIn}
@@ -101,22 +98,3 @@ by_test NotEqual true n x r i e = not_equal_left n x r i (not_not (int_eq x n) t
 by_test NotEqual false n x r i e = equal_left n x r i (not_not (int_eq x n) false (number_of-injective (not (int_eq x n)) false cc))
 by_test op true n x r i e = i
 by_test op false n x r i e = i
-
--- the value of a literal
-exact-value : (x y : ℤ) → exact x ≡ Ok y → x ≡ y
-exact-value x y e = by (within (neg_ℤ (pos (2 ^ 63))) (pos (2 ^ 63 - 1)) x) e where
-  by : (b : Bool) → cond b (Ok x) (Err faults.Overflow) ≡ Ok y → x ≡ y
-  by true e = cc
-  by false e = cc
-
-number-value : (g : EventGraph) (s : State) (clk : ℕ) (e : Expression) (n x : ℤ) → number_literal e ≡ Some n → value_of g s clk e ≡ Ok x → x ≡ n
-number-value g s clk (Number m) n x is e = cc
-number-value g s clk e n x is done = cc
-
-negative-value : (g : EventGraph) (s : State) (clk : ℕ) (a : Expression) (n x : ℤ) → literal_number (Negative a) ≡ Some n → value_of g s clk (Negative a) ≡ Ok x → x ≡ n
-negative-value g s clk (Number m) n x is e = let same = exact-value (neg_ℤ m) x e in cc
-negative-value g s clk a n x is done = cc
-
-pub literal-value : (g : EventGraph) (s : State) (clk : ℕ) (e : Expression) (n x : ℤ) → literal_number e ≡ Some n → value_of g s clk e ≡ Ok x → x ≡ n
-literal-value g s clk (Negative a) n x is done = negative-value g s clk a n x is done
-literal-value g s clk e n x is done = number-value g s clk e n x is done

@@ -19,7 +19,8 @@ use Rattle.model_core.specs.Rules.RangesHold.{LikeDeclared, ZeroToOne, LiesWithi
 use Rattle.model_core.specs.declared.var_range.VarRange.{VarRange}
 use Rattle.model_core.specs.Ranges.OtherRanges.{LiesIn, declared_range, with_range}
 use Rattle.model_core.specs.Ranges.Refined.{numbers_left, opposite_comparison, is_number_scalar, unless_empty, where_holds, ranges_refined_by, refines_both, refined}
-use Rattle.range_infer.proofs.NumbersLeft.{by_test, literal-value}
+use Rattle.bound_laws.proofs.LiteralValues.{literal-value}
+use Rattle.range_infer.proofs.NumbersLeft.{by_test}
 
 -- ---- one variable is replaced
 

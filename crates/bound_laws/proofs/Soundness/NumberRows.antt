@@ -24,7 +24,7 @@ exact-cases true x z e done =
     (same, subst (λ y. lowest ≤ℤ y) same (true-int_le lowest x (and_first _ _ e)), subst (λ y. y ≤ℤ highest) same (true-int_le x highest (and_second (int_le lowest x) _ e)))
 exact-cases false x z e done = cc
 
-exact_ok : (x z : ℤ) → exact x ≡ Ok z → (x ≡ z) × (lowest ≤ℤ z) × (z ≤ℤ highest)
+pub exact_ok : (x z : ℤ) → exact x ≡ Ok z → (x ≡ z) × (lowest ≤ℤ z) × (z ≤ℤ highest)
 exact_ok x z e = exact-cases (within lowest highest x) x z refl e
 
 exact_within : (x : ℤ) → lowest ≤ℤ x → x ≤ℤ highest → exact x ≡ Ok x
