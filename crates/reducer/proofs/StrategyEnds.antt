@@ -5,22 +5,22 @@ use Rattle.std.specs.Prelude.{filter, count_by}
 use Rattle.std.specs.List.{AllByRecursion, position_from, range_with_len}
 use Rattle.std.proofs.lemmas.List.{length-map}
 use Rattle.std.proofs.lemmas.List.Sums.{sum_by-cons}
-use Rattle.model_core.specs.EventGraph.{EventEdge, EventVertex, EdgeKind, Schedule, Urgent, CancelNext, CancelEqual, CancelAll, Expression, Number, Truth, Clock, Scalar, Cell, Negative, Not, Binary, If, EventGraph}
+use Rattle.model_core.specs.EventGraph.{EventEdge, EventVertex, EdgeKind, Schedule, Urgent, CancelNext, CancelEqual, CancelAll, EventGraph}
 use Rattle.model_core.specs.Static.Reading.{IsValid}
 use Rattle.model_core.specs.Rules.Conditions.{first_failed}
 use Rattle.model_core.specs.Rules.MarkedPlaces.{rank, marked_of, is_marked, unmarked_places}
-use Rattle.model_core.specs.Rules.Settle.{is_literal_true}
 use Rattle.model_core.specs.Rules.UrgentEdges.{is_urgent, is_urgent_kind, is_plain}
 use Rattle.model_core.specs.Rules.Reached.{reached_marks, unreached}
 use Rattle.model_core.specs.Rules.Drop.{is_nonempty_list, lists_exactly, drop_conditions, staying_marks, edge_renumbered, vertex_renumbered, dropped}
 use Rattle.model_core.specs.Rules.Merge.{merge_conditions, merged, first_merge}
 use Rattle.model_core.specs.Rules.Needed.{needed_at_once, needed_beside, needed_marks, unneeded}
-use Rattle.model_core.specs.Rules.Slice.{slice_conditions, expression_renumbered, sliced_kind, sliced_edge, sliced_vertex, sliced}
+use Rattle.model_core.specs.Rules.Slice.{slice_conditions, sliced_kind, sliced_edge, sliced_vertex, sliced}
 use Rattle.model_core.specs.Rules.Reduction.{RuleApplication, applied, drop_of, merge_of, first_rule, Strategy}
 use Rattle.mark_laws.proofs.EntailedMarks.{entailed_marks-long}
 use Rattle.mark_laws.proofs.StayingMarks.{staying-unmarked, exactly-equal}
 use Rattle.mark_laws.proofs.ReachedLong.{reached_marks-long}
 use Rattle.model_core.proofs.AllHold.{every-holds}
+use Rattle.model_core.proofs.RenumberedConditions.{literal-renumbered}
 use Rattle.model_core.proofs.SomeOfAList.{some-few, some-marked_of}
 use Rattle.merge_rules.specs.UrgentVertices.{has_plain, plain_count}
 use Rattle.reducer.specs.Inner.LaterRules.{NoEdgeRule, MadeAndNoted, LeavesEdges}
@@ -117,17 +117,6 @@ drop_leaves_less g k ks is =
 
 -- ---- slice
 
-literally_same : (f : ℕ → ℕ) (c : Expression) → is_literal_true (expression_renumbered f c) ≡ is_literal_true c
-literally_same f (Number n) = refl
-literally_same f (Truth b) = refl
-literally_same f Clock = refl
-literally_same f (Scalar v) = refl
-literally_same f (Cell v e) = refl
-literally_same f (Negative a) = refl
-literally_same f (Not a) = refl
-literally_same f (Binary op a b) = refl
-literally_same f (If c a b) = refl
-
 urgently_same : (marks : List Bool) (k : EdgeKind) → is_urgent_kind (sliced_kind marks k) ≡ is_urgent_kind k
 urgently_same marks (Schedule delay priority) = refl
 urgently_same marks Urgent = refl
@@ -140,7 +129,7 @@ slice_leaves_less g k ks is =
     let marks = staying_marks (k ∷ ks) (length g.variables) in
     let fewer = taken_away (needed_marks g) g.variables k ks (entailed_marks-long (length g.variables) (needed_at_once g) (needed_beside g)) is in
     let long = length-map g.vertices (sliced_vertex g marks) in
-    let same = count-map (sliced_vertex g marks) (λ v. plain_urgent-same (sliced_edge g marks) (λ e. urgently_same marks e.kind) (λ e. ap₂ (λ a b. a && b) (urgently_same marks e.kind) (literally_same (rank marks) e.condition)) v (sliced_vertex g marks v) refl) g.vertices in
+    let same = count-map (sliced_vertex g marks) (λ v. plain_urgent-same (sliced_edge g marks) (λ e. urgently_same marks e.kind) (λ e. ap₂ (λ a b. a && b) (urgently_same marks e.kind) (literal-renumbered (rank marks) e.condition)) v (sliced_vertex g marks v) refl) g.vertices in
     omega (arith, fewer, long, same)
 
 -- ---- merge

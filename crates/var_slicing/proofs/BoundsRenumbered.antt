@@ -1,5 +1,5 @@
 -- Where variables go, the bounds of what stays are the old ones, so prune and settle apply to the edges to which they did.
-use Rattle.std.proofs.Common.{◌≡◌, ℕ, ◌+◌, Bool, true, false, not, cond, ◌&&◌, List, [], ◌∷◌, ◌++◌, map, Option, Some, None, refl, sym, ap, ap₂, ◌∙◌}
+use Rattle.std.proofs.Common.{◌≡◌, ℕ, ◌+◌, Bool, true, not, cond, ◌&&◌, List, [], ◌∷◌, ◌++◌, map, Option, Some, None, refl, sym, ap, ap₂, ◌∙◌}
 use Rattle.std.specs.List.{AllByRecursion, position_from}
 use Rattle.model_core.specs.declared.bounds.Bounds.{Bounds}
 use Rattle.model_core.specs.EventGraph.{EventGraph, EventVertex, EventEdge, Variable, Operator, Expression, Number, Truth, Clock, Scalar, Cell, Negative, Not, Binary, If}
@@ -10,7 +10,7 @@ use Rattle.model_core.specs.Rules.BoundsOf.{ranged_at, bounds_under, no_guard, b
 use Rattle.model_core.specs.Rules.Conditions.{first_failed}
 use Rattle.model_core.specs.Rules.PlacedEdges.{edge_or, first_edge}
 use Rattle.model_core.specs.Rules.Prune.{has_refuted_condition, first_prune}
-use Rattle.model_core.specs.Rules.Settle.{is_literal_true, can_be_settled, first_settle}
+use Rattle.model_core.specs.Rules.Settle.{can_be_settled, first_settle}
 use Rattle.model_core.specs.Rules.MarkedPlaces.{rank}
 use Rattle.model_core.specs.Rules.Uses.{variables_in}
 use Rattle.model_core.specs.Rules.Needed.{needed_marks}
@@ -18,6 +18,7 @@ use Rattle.model_core.specs.Rules.Slice.{expression_renumbered, sliced_edge, sli
 use Rattle.mark_laws.proofs.Marks.{Marked}
 use Rattle.bound_laws.proofs.NoGuard.{beside_no_guard}
 use Rattle.model_core.proofs.EachOne.{every-front, every-after, every-map}
+use Rattle.model_core.proofs.RenumberedConditions.{literal-renumbered}
 use Rattle.var_slicing.proofs.StoresLeft.{variable-left}
 use Rattle.var_slicing.proofs.ValuesLeft.{ReadsMarked}
 use Rattle.var_slicing.proofs.NeedsClosed.{EdgeNeeds, NeedsHold, live_streams}
@@ -58,11 +59,6 @@ bounds-left g marks e reads =
 
 -- ---- edges
 
-literal-left : (f : ℕ → ℕ) (e : Expression) → is_literal_true (expression_renumbered f e) ≡ is_literal_true e
-literal-left f (Truth true) = refl
-literal-left f (Truth false) = refl
-literal-left f e = refl
-
 module _ (test new_test : EventEdge → Bool) (left : EventEdge → EventEdge) where
   abbrev TestedSame : EventEdge → Type 0
   TestedSame e = new_test (left e) ≡ test e
@@ -85,7 +81,7 @@ module _ (g : EventGraph) (marks live : List Bool) (needs : NeedsHold g marks li
   refuted-left e need = ap refuted (bounds-left g marks e.condition need.0)
 
   settled-left : (e : EventEdge) → EdgeNeeds g marks e → can_be_settled h (sliced_edge g marks e) ≡ can_be_settled g e
-  settled-left e need = ap₂ (λ (b c : Bool). not b && c) (literal-left (rank marks) e.condition) (ap proved (bounds-left g marks e.condition need.0))
+  settled-left e need = ap₂ (λ (b c : Bool). not b && c) (literal-renumbered (rank marks) e.condition) (ap proved (bounds-left g marks e.condition need.0))
 
   each-edge : (test new_test : EventEdge → Bool) → ((e : EventEdge) → EdgeNeeds g marks e → new_test (sliced_edge g marks e) ≡ test e) → AllByRecursion (λ (v : EventVertex). AllByRecursion (λ (e : EventEdge). new_test (sliced_edge g marks e) ≡ test e) v.edges) g.vertices
   each-edge test new_test same = every-map (λ (v : EventVertex). AllByRecursion (EdgeNeeds g marks) v.edges) (λ (v : EventVertex). AllByRecursion (λ (e : EventEdge). new_test (sliced_edge g marks e) ≡ test e) v.edges) (λ v all. every-map (EdgeNeeds g marks) (λ e. new_test (sliced_edge g marks e) ≡ test e) same v.edges all) g.vertices needs.edges

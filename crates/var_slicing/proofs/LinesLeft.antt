@@ -195,7 +195,7 @@ module _ (g : EventGraph) (marks live : List Bool) where
 
   -- what the edge carries, beside the parameters of its target
   pub edge-carries : (e : EventEdge) → KeepsEdge g.variables tables (parameters_of g) e → Carries e.kind e
-  edge-carries e k = subst (λ ps. CarriesValues g.variables tables (parameters_of g) e.kind ps e.values) (sym (takes-parameters g.vertices e.target k.parameters k.target)) k.carries
+  edge-carries e k = subst (λ ps. CarriesValues g.variables tables (parameters_of g) e.kind ps e.values) (sym (takes-parameters g e.target k.parameters k.target)) k.carries
 
   carried-read : (e : EventEdge) → CarriedFitKinds g.variables tables (parameters_of g) (takes_of e) e.values → CarriedNeed g marks e → ValuesRead marks (takes_of e) e.values
   carried-read e carried needs = carried-reads g marks IsParameterOf (HasKind g.variables) (takes_of e) e.values carried.kinds carried.taken carried.given needs
@@ -240,7 +240,7 @@ module _ (g : EventGraph) (marks live : List Bool) where
   pub edge-keeps : (e : EventEdge) → KeepsEdge g.variables tables (parameters_of g) e → EdgeNeeds g marks e → KeepsEdge h.variables tables (parameters_of h) (sliced_edge g marks e)
   edge-keeps e k needs = record {
     parameters = sliced_parameters marks (takes_of e);
-    target = takes-left_at g marks g.vertices e.target (takes_of e) (k.target ∙ ap (λ ps. Some ps) (sym (takes-parameters g.vertices e.target k.parameters k.target)));
+    target = takes-left_at g marks g.vertices e.target (takes_of e) (k.target ∙ ap (λ ps. Some ps) (sym (takes-parameters g e.target k.parameters k.target)));
     carries = kind-carries e e.kind (edge-carries e k) needs.1;
     timing = timing-keeps e e.kind k.timing needs.1;
     condition = kind-of_left g marks e.condition kinds.Truth needs.0 k.condition;

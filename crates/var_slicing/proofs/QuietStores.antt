@@ -1,5 +1,5 @@
 -- Quiet stores: where the bounds show that nothing faults, there are a value, a place and what is kept of the value.
-use Rattle.std.proofs.Common.{◌≡◌, ℕ, zero, suc, slice_get, slice_index_or, Some, ◌≤◌, ◌^◌, ℤ, true, false, ◌&&◌, Bool, IsTrue, List, [], ◌∷◌, map, zip, length, Ok, refl, sym, ap, ◌∙◌, subst, arith}
+use Rattle.std.proofs.Common.{◌≡◌, ℕ, slice_get, Some, ◌≤◌, ◌^◌, ℤ, true, false, ◌&&◌, Bool, IsTrue, List, [], ◌∷◌, map, zip, length, Ok, refl, sym, ap, ◌∙◌, subst, arith}
 use Rattle.std.specs.List.{AllByRecursion, AllZip}
 use Rattle.std.specs.Option.{option_map_or}
 use Rattle.sig_base.proofs.Lists.{slice_index_or-all}
@@ -18,6 +18,7 @@ use Rattle.mark_laws.proofs.Marks.{Marked}
 use Rattle.model_core.proofs.Results.{bind_ok}
 use Rattle.run_laws.proofs.InRange.{in_range-kept}
 use Rattle.model_core.proofs.EachOne.{every-map}
+use Rattle.model_core.proofs.Images.{image-there}
 use Rattle.var_slicing.proofs.HeldByAll.{held-both}
 use Rattle.var_slicing.proofs.ValuesLeft.{IsStored, ValuesFit}
 use Rattle.var_slicing.proofs.ChangesLeft.{TargetFits, ChangeFits}
@@ -99,10 +100,8 @@ module _ (g : EventGraph) (quiet : QuietChanges g) (s : State) (inside : IsTrue 
     kind-fits live e CancelAll lives carries needs = tt
 
 -- what an edge's target takes are the parameters of the vertex there
-pub takes-parameters : (vs : List EventVertex) (k : ℕ) (ps : List ℕ) → slice_get (map (λ (v : EventVertex). v.parameters) vs) k ≡ Some ps → (slice_index_or vs k no_vertex).parameters ≡ ps
-takes-parameters [] k ps e = cc
-takes-parameters (v ∷ vs) zero ps e = cc
-takes-parameters (v ∷ vs) (suc k) ps e = takes-parameters vs k ps e
+pub takes-parameters : (g : EventGraph) (k : ℕ) (ps : List ℕ) → slice_get (parameters_of g) k ≡ Some ps → (vertex_at g k).parameters ≡ ps
+takes-parameters g k ps there = image-there (λ (v : EventVertex). v.parameters) g.vertices k no_vertex ps there
 
 module _ (g : EventGraph) (quiet : QuietChanges g) (keeps : KeepsParts g) (marks live : List Bool) (needs : NeedsHold g marks live) where
   abbrev Inside : State → Type 0
@@ -121,7 +120,7 @@ module _ (g : EventGraph) (quiet : QuietChanges g) (keeps : KeepsParts g) (marks
 
   edge-fits : (s : State) → Inside s → (clk : ℕ) → clk ≤ 2 ^ 48 → (e : EventEdge) → EdgeKeeps e × (EdgeNeeds g marks e × DelayLives live e) → EdgeFits g marks live s clk e
   edge-fits s inside clk early e (rules, (need, lives)) =
-      (need.0, kind-fits g quiet s inside clk early marks live e e.kind lives (subst (λ ps. CarriesValues g.variables (length g.tables) (parameters_of g) e.kind ps e.values) (sym (takes-parameters g.vertices e.target rules.parameters rules.target)) rules.carries) need.1)
+      (need.0, kind-fits g quiet s inside clk early marks live e e.kind lives (subst (λ ps. CarriesValues g.variables (length g.tables) (parameters_of g) e.kind ps e.values) (sym (takes-parameters g e.target rules.parameters rules.target)) rules.carries) need.1)
 
   abbrev KeptParts : EventVertex → Type 0
   KeptParts v = AllByRecursion ChangeKeeps v.changes × AllByRecursion EdgeKeeps v.edges
