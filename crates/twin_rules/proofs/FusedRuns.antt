@@ -1,7 +1,8 @@
 -- Two vertices that do the same, of which no edge cancels events and neither is watched, may be fused: the runs stay the same.
-use Rattle.std.proofs.Common.{◌≡◌, ℕ, zero, suc, Bool, true, false, cond, ◌&&◌, ◌==◌, List, [], ◌∷◌, map, slice_index_or, refl, sym, ◌∙◌, ap, subst}
+use Rattle.std.proofs.Common.{◌≡◌, ℕ, Bool, true, false, cond, ◌&&◌, ◌==◌, map, refl, sym, ◌∙◌, ap, subst}
 use Rattle.std.specs.List.{AllByRecursion, list_any, remove}
 use Rattle.std.proofs.lemmas.Bool.{eqb-true}
+use Rattle.sig_base.proofs.Lists.{slice_index_or-all}
 use Rattle.model_core.specs.EventGraph.{EventGraph, EventVertex, EventEdge, EdgeKind, Schedule, Urgent, CancelNext, CancelEqual, CancelAll, Watched, WatchedVariable, WatchedVertex}
 use Rattle.model_core.specs.Run.Step.{no_vertex, vertex_at}
 use Rattle.model_core.specs.Run.History.{watches}
@@ -14,12 +15,6 @@ use Rattle.model_core.proofs.Images.{at-map}
 use Rattle.model_core.proofs.FusedPlaces.{Other, standing-itself, fused-at, fused-first, fused-apart, same-leading}
 use Rattle.twin_rules.proofs.AlikeVertices.{AreAlike}
 use Rattle.run_laws.proofs.MappedVertices.{BehavesAs, LeadsToMapped, WatchedAreApart, mapped-Same}
-
--- what holds of the edges of each vertex holds of those of the vertex at a place
-edges_at : (P : EventEdge → Type 0) (vs : List EventVertex) (k : ℕ) → AllByRecursion (λ (v : EventVertex). AllByRecursion P v.edges) vs → AllByRecursion P (slice_index_or vs k no_vertex).edges
-edges_at P [] k all = tt
-edges_at P (v ∷ vs) zero all = all.0
-edges_at P (v ∷ vs) (suc k) all = edges_at P vs k all.1
 
 module _ (g : EventGraph) (keep gone : ℕ) (are : AreAlike g keep gone) where
   abbrev h : EventGraph
@@ -60,10 +55,11 @@ module _ (g : EventGraph) (keep gone : ℕ) (are : AreAlike g keep gone) where
 
   closed : (k : ℕ) → AllByRecursion May (vertex_at g k).edges
   closed k =
-      edges_at May g.vertices k
+      slice_index_or-all (λ (v : EventVertex). AllByRecursion May v.edges) g.vertices no_vertex k
       (every-both (λ (v : EventVertex). list_any (cancels keep) v.edges ≡ false) (λ (v : EventVertex). list_any (cancels gone) v.edges ≡ false) (λ (v : EventVertex). AllByRecursion May v.edges) (λ v a b.
       every-both (λ (e : EventEdge). cancels keep e ≡ false) (λ (e : EventEdge). cancels gone e ≡ false) May (λ e. may-lead e.kind e.target) v.edges (every-fails (cancels keep) v.edges a) (every-fails (cancels gone) v.edges b))
       g.vertices (every-fails (λ (v : EventVertex). list_any (cancels keep) v.edges) g.vertices are.keep_uncancelled) (every-fails (λ (v : EventVertex). list_any (cancels gone) v.edges) g.vertices are.gone_uncancelled))
+      tt
 
   pub watched-other : AllByRecursion (WatchedAreApart IsOther) g.watch
   watched-other =

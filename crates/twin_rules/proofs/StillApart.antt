@@ -12,6 +12,7 @@ use Rattle.model_core.specs.Rules.Merge.{is_cancelling, cancels, is_watched_vert
 use Rattle.model_core.specs.Rules.MarkedPlaces.{place_without}
 use Rattle.model_core.specs.Rules.Fuse.{standing_for, fused_place, fused, can_be_cancelled}
 use Rattle.model_core.proofs.EachOne.{either_false}
+use Rattle.model_core.proofs.PlacesChanged.{different}
 use Rattle.model_core.proofs.FusedPlaces.{BesideIt, before, behind, beside, at-without, standing-itself, same-leading}
 use Rattle.twin_rules.proofs.AlikeVertices.{AreAlike}
 use Rattle.twin_rules.proofs.ValidFused.{length_h}
@@ -110,15 +111,12 @@ module _ (g : EventGraph) (keep gone : ℕ) (are : AreAlike g keep gone) where
   abbrev one_cancels : ℕ → EventVertex → Bool
   one_cancels x v = list_any (cancels x) v.edges
 
-  pub keep-apart : (keep == gone) ≡ false
-  keep-apart = let e = are.first in grind (arith, nat_tests)
-
   pub uncancelled-before : (x : ℕ) → (x == gone) ≡ false → can_be_cancelled h (p x) ≡ false → can_be_cancelled g x ≡ false
   uncancelled-before x apart none =
       let others : list_any (one_cancels x) (remove g.vertices gone) ≡ false = none-of_map (vertex_renumbered f) (one_cancels x) (one_cancels (p x)) (λ v. edges-before x apart v.edges) (remove g.vertices gone) none in
       let at_keep : list_any (cancels (p x)) (vertex_at h (p keep)).edges ≡ false = none-at (one_cancels (p x)) h.vertices (p keep) no_vertex none refl in
       let at_gone : list_any (cancels (p x)) (map (edge_renumbered f) (vertex_at g gone).edges) ≡ false =
-      ap (list_any (cancels (p x))) (sym (same-leading keep gone are.first (vertex_at g keep).edges (vertex_at g gone).edges are.edges) ∙ ap (λ (v : EventVertex). v.edges) (sym (placed keep keep-apart))) ∙ at_keep in
+      ap (list_any (cancels (p x))) (sym (same-leading keep gone are.first (vertex_at g keep).edges (vertex_at g gone).edges are.edges) ∙ ap (λ (v : EventVertex). v.edges) (sym (placed keep (different keep gone are.first)))) ∙ at_keep in
       none-with (one_cancels x) g.vertices gone no_vertex others (edges-before x apart (vertex_at g gone).edges at_gone)
 
   -- ---- edges

@@ -9,12 +9,13 @@ use Rattle.model_core.specs.Rules.Merge.{leads_to}
 use Rattle.model_core.specs.Rules.MarkedPlaces.{place_without}
 use Rattle.model_core.specs.Rules.Fuse.{fused_place, fused}
 use Rattle.model_core.proofs.EachOne.{either_false}
+use Rattle.model_core.proofs.PlacesChanged.{different}
 use Rattle.twin_rules.specs.declared.marks.Marks.{Marks}
 use Rattle.twin_rules.specs.Inner.ComparedPairs.{place_before, some_leads}
 use Rattle.twin_rules.specs.Inner.MarkedVertices.{has_mark, one_marks}
 use Rattle.twin_rules.specs.Inner.LedTo.{NoneLeadsTo, MarksTargets}
 use Rattle.twin_rules.proofs.AlikeVertices.{AreAlike}
-use Rattle.twin_rules.proofs.StillApart.{none-at, placed, keep-apart, places_same}
+use Rattle.twin_rules.proofs.StillApart.{none-at, placed, places_same}
 use Rattle.twin_rules.proofs.PairsStillApart.{stays-apart, and-back}
 use Rattle.twin_rules.proofs.BarredAfter.{none-after, leads-after}
 
@@ -43,7 +44,7 @@ module _ (g : EventGraph) (keep gone : ℕ) (are : AreAlike g keep gone) where
   elsewhere x t apart other none = by (t == gone) refl where
     by : (b : Bool) → (t == gone) ≡ b → (f t == p x) ≡ false
     by false stays = leads-after g keep gone are x apart t none stays
-    by true is = ap (λ b. p (cond b keep t) == p x) is ∙ (places_same g keep gone are x x apart apart keep (keep-apart g keep gone are) ∙ other)
+    by true is = ap (λ b. p (cond b keep t) == p x) is ∙ (places_same g keep gone are x x apart apart keep (different keep gone are.first) ∙ other)
 
   edges-elsewhere : (x : ℕ) → (x == gone) ≡ false → (keep == x) ≡ false → (es : List EventEdge) → list_any (leads_to x) es ≡ false → list_any (leads_to (p x)) (map (edge_renumbered f) es) ≡ false
   edges-elsewhere x apart other es none = none-after (edge_renumbered f) (leads_to x) (leads_to x) (leads_to (p x)) (λ e here too. elsewhere x e.target apart other here) es none none

@@ -12,7 +12,7 @@ use Rattle.model_core.specs.Text.Spellable.{IsNonEmpty, IsSpellable}
 use Rattle.model_core.specs.Static.OwnRules.{parameters_of, KeepsStaticRules}
 use Rattle.model_core.specs.Rules.Drop.{vertex_renumbered}
 use Rattle.model_core.proofs.Among.{of-among}
-use Rattle.model_core.proofs.Images.{map-remove}
+use Rattle.model_core.proofs.Images.{image-there, map-remove}
 use Rattle.model_core.proofs.SomeOfAList.{SomeOf, nothing, with_it, without, some-all}
 use Rattle.round_trip.proofs.FewerVertices.{Stay, kept-spellable, kept-parts}
 use Rattle.model_core.specs.Rules.Fuse.{standing_for, fused_place, fused}
@@ -53,23 +53,18 @@ module _ (g : EventGraph) (keep gone : ℕ) (are : AreAlike g keep gone) where
 
   -- ---- what each vertex takes
 
-  -- the vertex that is kept takes what the one takes that is gone
-  taken_at : (vs : List EventVertex) (k : ℕ) (ps : List ℕ) → slice_get (map (λ (v : EventVertex). v.parameters) vs) k ≡ Some ps → (slice_index_or vs k no_vertex).parameters ≡ ps
-  taken_at [] k ps is = cc
-  taken_at (v ∷ vs) zero ps is = cc
-  taken_at (v ∷ vs) (suc k) ps is = taken_at vs k ps is
-
   there_at : (vs : List EventVertex) (k : ℕ) (ps : List ℕ) → k < length vs → (slice_index_or vs k no_vertex).parameters ≡ ps → slice_get (map (λ (v : EventVertex). v.parameters) vs) k ≡ Some ps
   there_at [] k ps below is = absurd (omega (arith, below))
   there_at (v ∷ vs) zero ps below is = ap Some is
   there_at (v ∷ vs) (suc k) ps below is = there_at vs k ps (omega (arith, below)) is
 
+  -- the vertex that is kept takes what the one takes that is gone
   takes_as : (k : ℕ) (ps : List ℕ) → slice_get (parameters_of g) k ≡ Some ps → slice_get (parameters_of g) (standing_for keep gone k) ≡ Some ps
   takes_as k ps is = by (k == gone) refl where
     by : (b : Bool) → (k == gone) ≡ b → slice_get (parameters_of g) (cond b keep k) ≡ Some ps
     by true same =
         let at_gone : slice_get (parameters_of g) gone ≡ Some ps = ap (slice_get (parameters_of g)) (sym (eqb-true k gone same)) ∙ is in
-        there_at g.vertices keep ps (let a = are.first in let b = are.within in omega (arith, a, b)) (are.parameters ∙ taken_at g.vertices gone ps at_gone)
+        there_at g.vertices keep ps (let a = are.first in let b = are.within in omega (arith, a, b)) (are.parameters ∙ image-there (λ (v : EventVertex). v.parameters) g.vertices gone no_vertex ps at_gone)
     by false apart = is
 
   takes_same : (k : ℕ) (ps : List ℕ) → slice_get (parameters_of g) k ≡ Some ps → slice_get (map (λ (v : EventVertex). v.parameters) kept) (f k) ≡ Some ps
