@@ -103,6 +103,9 @@ bracket_text = an_opening 91 symbols.OpenBracket (λ rest. refl) refl refl
 pub bracket_end : {i : ℕ} → Writes (mark symbols.CloseBracket) (codes "]") Any i i (λ at. Unit {0})
 bracket_end = a_mark 93 [] symbols.CloseBracket (λ rest. refl) refl refl
 
+pub bare_comma : {i : ℕ} → Writes (mark symbols.Comma) (codes ",") Any i i (λ at. Unit {0})
+bare_comma = a_mark 44 [] symbols.Comma (λ rest. refl) refl refl
+
 pub minus_text : {i : ℕ} → Writes (mark symbols.Minus) (codes "-") Any (suc i) i (λ at. Unit {0})
 minus_text = an_opening 45 symbols.Minus (λ rest. refl) refl refl
 

@@ -11,7 +11,7 @@ use Rattle.model_core.specs.Text.Expressions.{LanguageFormat}
 use Rattle.model_core.proofs.EachOne.{every-passes}
 use Rattle.round_trip.proofs.LongestTokens.{Ends, front_name}
 use Rattle.round_trip.proofs.Writing.{Writes, Any, Takes, takes, writes-then, writes-made, writes-after, writes-room, writes-none, writes-more}
-use Rattle.round_trip.proofs.OneToken.{writes-token, neither, a_mark}
+use Rattle.round_trip.proofs.OneToken.{writes-token, neither, bare_comma}
 use Rattle.round_trip.proofs.ListText.{Pairs}
 
 -- ---- words that are names
@@ -23,9 +23,6 @@ writes-this_name {i} c w letter all free =
     writes-token (ASpelled (c ∷ w)) (λ t. t.from) (λ at. Unit {0}) c w (NameOf (c ∷ w)) Ends (λ rest e. front_name c w rest name e) refl (neither (NameOf (c ∷ w)) i refl refl) (λ from to. tt)
 
 -- ---- lists with commas
-
-pub bare_comma : {i : ℕ} → Writes (mark symbols.Comma) (codes ",") Any i i (λ at. Unit {0})
-bare_comma = a_mark 44 [] symbols.Comma (λ rest. refl) refl refl
 
 module _ {A X : Type 0} {p : LanguageFormat A} (text : X → List ℕ) (cost : X → ℕ) (Good : X → Type 0) (Is : X → A → Type 0) (each-writes : (x : X) → Good x → (j : ℕ) → Writes p (text x) Ends (cost x + j) j (Is x)) where
   follows-commas : (xs : List X) (rest : List ℕ) → Ends rest → Ends (flat_map (λ y. codes "," ++ text y) xs ++ rest)
