@@ -1,8 +1,9 @@
 -- Where no edge can be pruned or settled, none can be after a merge: bounds of conditions stay.
-use Rattle.std.proofs.Common.{◌≡◌, ℕ, zero, suc, Bool, false, List, [], ◌∷◌, Option, Some, None}
+use Rattle.std.proofs.Common.{◌≡◌, ℕ, Bool, false, List, Option, Some, None}
 use Rattle.std.specs.Prelude.{slice_index_or}
 use Rattle.std.specs.List.{remove}
 use Rattle.std.specs.Option.{option_map_or}
+use Rattle.sig_base.proofs.Lists.{slice_index_or-all}
 use Rattle.model_core.specs.EventGraph.{EventEdge, EventVertex, EventGraph}
 use Rattle.model_core.specs.Run.Step.{no_vertex}
 use Rattle.model_core.specs.Rules.PlacedEdges.{with_place, first_edge}
@@ -11,14 +12,9 @@ use Rattle.model_core.specs.Rules.Settle.{can_be_settled, first_settle}
 use Rattle.model_core.specs.Rules.UrgentEdges.{plain_urgent}
 use Rattle.model_core.specs.Rules.Merge.{merged_vertex, values_at_once, merged_with, merged}
 use Rattle.model_core.proofs.EachOne.{every-joined}
-use Rattle.model_core.proofs.NoEdgePasses.{NoneOf, NoneIn, first_edge-none, none-first_edge, none-removed, none-placed}
+use Rattle.model_core.proofs.NoEdgePasses.{NoneOf, first_edge-none, none-first_edge, none-removed, none-placed}
 
 module _ (test : EventEdge → Bool) where
-  none-at : (vs : List EventVertex) (k : ℕ) → NoneIn test vs → NoneOf test (slice_index_or vs k no_vertex).edges
-  none-at [] k none = tt
-  none-at (v ∷ vs) zero none = none.0
-  none-at (v ∷ vs) (suc k) none = none-at vs k none.1
-
   none-joined : (b a : EventVertex) → NoneOf test b.edges → NoneOf test a.edges → NoneOf test (merged_with b a).edges
   none-joined b a clear none = one (plain_urgent a) where
     one : (o : Option ℕ) → NoneOf test (option_map_or (merged_vertex b (values_at_once a) a) o a).edges
@@ -29,7 +25,7 @@ module _ (test : EventEdge → Bool) where
   none-merged vs first second none =
       let clear = none-first_edge test 0 vs none in
       let b = slice_index_or vs second no_vertex in
-      first_edge-none test 0 _ (none-placed test (merged_with b) (λ a. none-joined b a (none-at vs second clear)) vs first clear)
+      first_edge-none test 0 _ (none-placed test (merged_with b) (λ a. none-joined b a (slice_index_or-all (λ (v : EventVertex). NoneOf test v.edges) vs no_vertex second clear tt)) vs first clear)
 
 pub merged-prune : (g : EventGraph) (first second : ℕ) → first_prune g ≡ None → first_prune (merged g first second) ≡ None
 merged-prune g first second none = none-merged (has_refuted_condition g) g.vertices first second none

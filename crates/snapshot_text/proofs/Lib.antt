@@ -6,7 +6,6 @@ pub mod RunSpelled
 pub mod SnapshotReadsBack
 mod WholeSnapshots
 mod DigitsRead
-mod FewParameters
 mod FittingValues
 mod JudgedParts
 mod PassingOver

@@ -4,6 +4,7 @@ use Rattle.std.proofs.lemmas.Bool.Decides.{nat_tests}
 use Rattle.std.specs.List.{AllByRecursion, AllZip, list_any, list_all, position_from}
 use Rattle.std.proofs.lemmas.List.{length-map}
 use Rattle.sig_base.specs.declared.limits.TheConstants.{PARAMETERS_MAX}
+use Rattle.sig_base.proofs.Lists.{slice_index_or-all}
 use Rattle.model_core.specs.declared.model.Kind.{Kind}
 use Rattle.model_core.specs.EventGraph.{EventGraph, Variable, EventVertex, EventEdge, EdgeKind, Schedule, Urgent, CancelNext, CancelEqual, CancelAll, Expression, scalar_location, has_drawn_delay}
 use Rattle.model_core.specs.Run.Step.{vertex_at, no_vertex}
@@ -16,12 +17,13 @@ use Rattle.model_core.specs.Rules.UrgentEdges.{is_urgent_kind, single_urgent}
 use Rattle.model_core.specs.Rules.Merge.{merge_conditions, cancels, is_cancelling, is_watched_vertex, reads_none_of, happens_unseen, set_parameters, values_at_once, other_edges, is_within_limits, merged}
 use Rattle.model_core.proofs.BothTrue.{and_first, and_second}
 use Rattle.model_core.proofs.AllHold.{every-holds}
+use Rattle.model_core.proofs.Images.{image-there}
 use Rattle.static_laws.proofs.StaticTwins.DeclaredNames.{every_item}
 use Rattle.bound_laws.proofs.Soundness.NumberRows.{not_true}
 use Rattle.model_core.proofs.EachOne.{every-map, every-front, every-after, every-joined, either_false}
 use Rattle.merge_rules.proofs.OneStepForTwo.EdgesAside.{Aside, urgent_edge}
 use Rattle.merge_rules.proofs.SingleUrgentModels.UrgentEvents.{PriorityOk}
-use Rattle.merge_rules.proofs.SingleUrgentModels.SingleUrgent.{at_each_place, edges_keep}
+use Rattle.merge_rules.proofs.SingleUrgentModels.SingleUrgent.{edges_keep}
 use Rattle.merge_rules.proofs.SingleUrgentModels.PlainEdges.{PlainEdge, plain_edge_of}
 
 -- ---- the conditions
@@ -98,11 +100,6 @@ none_found test (x ∷ xs) from e =
     let (here, later) = either_false (test x) (list_any test xs) e in
     ap (λ b. cond b (Some from) (position_from test (from + 1) xs)) here ∙ none_found test xs (from + 1) later
 
-shown_at : {A B : Type 0} (f : A → B) (xs : List A) (k : ℕ) (d : A) (y : B) → slice_get (map f xs) k ≡ Some y → f (slice_index_or xs k d) ≡ y
-shown_at f [] k d y e = cc
-shown_at f (x ∷ xs) zero d y e = cc
-shown_at f (x ∷ xs) (suc k) d y e = shown_at f xs k d y e
-
 -- ---- the `set` of parameters keeps the rules
 
 module _ (variables : List Variable) (tables : ℕ) (takes : List (List ℕ)) where
@@ -162,16 +159,16 @@ module _ (g : EventGraph) (keeps : KeepsParts g) (first second : ℕ) (h : Merge
   edge_keeps_rules = the_one Keeps h.edge.before at_once h.edge.after all_keep
 
   pub parameters_are : b.parameters ≡ edge_keeps_rules.parameters
-  parameters_are = shown_at (λ (v : EventVertex). v.parameters) g.vertices second no_vertex edge_keeps_rules.parameters edge_keeps_rules.target
+  parameters_are = image-there (λ (v : EventVertex). v.parameters) g.vertices second no_vertex edge_keeps_rules.parameters edge_keeps_rules.target
 
   pub carried : CarriedFitKinds g.variables (length g.tables) (parameters_of g) b.parameters h.edge.values
   carried = subst (λ ps. CarriedFitKinds g.variables (length g.tables) (parameters_of g) ps h.edge.values) (sym parameters_are) edge_keeps_rules.carries
 
   pub few_parameters : length b.parameters ≤ PARAMETERS_MAX
-  few_parameters = at_each_place (λ (v : EventVertex). length v.parameters ≤ PARAMETERS_MAX) (omega arith) g.vertices (every-map (KeepsVertex g.variables (length g.tables) (parameters_of g)) _ (λ v keep. keep.few_parameters) g.vertices keeps.vertices) second
+  few_parameters = slice_index_or-all (λ (v : EventVertex). length v.parameters ≤ PARAMETERS_MAX) g.vertices no_vertex second (every-map (KeepsVertex g.variables (length g.tables) (parameters_of g)) _ (λ v keep. keep.few_parameters) g.vertices keeps.vertices) (omega arith)
 
   pub changes_keep : AllByRecursion (KeepsChange g.variables (length g.tables) (parameters_of g)) b.changes
-  changes_keep = at_each_place (λ (v : EventVertex). AllByRecursion (KeepsChange g.variables (length g.tables) (parameters_of g)) v.changes) tt g.vertices (every-map (KeepsVertex g.variables (length g.tables) (parameters_of g)) _ (λ v keep. keep.changes) g.vertices keeps.vertices) second
+  changes_keep = slice_index_or-all (λ (v : EventVertex). AllByRecursion (KeepsChange g.variables (length g.tables) (parameters_of g)) v.changes) g.vertices no_vertex second (every-map (KeepsVertex g.variables (length g.tables) (parameters_of g)) _ (λ v keep. keep.changes) g.vertices keeps.vertices) tt
 
   pub set_keeps_rules : AllByRecursion (KeepsChange g.variables (length g.tables) (parameters_of g)) (set_parameters b.parameters h.edge.values)
   set_keeps_rules = set_keeps g.variables (length g.tables) (parameters_of g) b.parameters h.edge.values few_parameters carried

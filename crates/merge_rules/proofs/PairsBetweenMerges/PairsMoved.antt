@@ -1,10 +1,11 @@
 -- Where two vertices and those that they name take other places, they can be merged as before, as far as it depends on the two.
-use Rattle.std.proofs.Common.{◌≡◌, ℕ, zero, suc, ◌+◌, ◌==◌, nat_lt, nat_le, Bool, true, false, not, ◌&&◌, ◌||◌, cond, List, [], ◌∷◌, ◌++◌, map, length, slice_get, Option, Some, None, refl, sym, ◌∙◌, ap, ap₂}
+use Rattle.std.proofs.Common.{◌≡◌, ℕ, ◌+◌, ◌==◌, nat_lt, nat_le, Bool, true, false, not, ◌&&◌, ◌||◌, cond, List, [], ◌∷◌, ◌++◌, map, length, slice_get, Option, Some, None, refl, sym, ◌∙◌, ap, ap₂}
 use Rattle.std.specs.Prelude.{count_by, is_none}
 use Rattle.std.specs.List.{AllByRecursion, list_all, list_any, position_from, remove}
 use Rattle.std.specs.Option.{option_map, option_map_or, option_and_then}
 use Rattle.std.proofs.lemmas.List.{map-append, length-map}
 use Rattle.std.proofs.lemmas.List.Sums.{sum_by-cons}
+use Rattle.std.proofs.lemmas.Option.{slice_get-map}
 use Rattle.sig_base.specs.declared.limits.TheConstants.{CHANGES_MAX, EDGES_MAX}
 use Rattle.model_core.specs.EventGraph.{EventGraph, EventVertex, EventEdge, EdgeKind, Schedule, Urgent, CancelNext, CancelEqual, CancelAll, Fixed, Drawn, Uniform, ByTable, StateChange, Set, Draw, Expression, Watched, WatchedVariable, WatchedVertex, delay_given, has_drawn_delay}
 use Rattle.model_core.specs.Run.Step.{vertex_at}
@@ -35,11 +36,6 @@ any-alike : {A B : Type 0} (f : A → B) (Live : A → Type 0) (test : A → Boo
 any-alike f Live test test_too same [] live = refl
 any-alike f Live test test_too same (x ∷ xs) live = ap₂ (λ a b. a || b) (same x live.0) (any-alike f Live test test_too same xs live.1)
 
-get-map : {A B : Type 0} (f : A → B) (xs : List A) (k : ℕ) → slice_get (map f xs) k ≡ option_map f (slice_get xs k)
-get-map f [] k = refl
-get-map f (x ∷ xs) zero = refl
-get-map f (x ∷ xs) (suc k) = get-map f xs k
-
 -- an answer that says whether one vertex acts unseen is right of another that acts unseen where the first does
 pub unseen-stays : (unseen : Option Bool) (g h : EventGraph) (v w : EventVertex) → acts_unseen h w ≡ acts_unseen g v → UnseenIsRight unseen g v → UnseenIsRight unseen h w
 unseen-stays None g h v w same right = tt
@@ -66,7 +62,7 @@ module _ (f : ℕ → ℕ) where
   edge-alike v = ap (option_and_then (slice_get (map (edge_renumbered f) v.edges))) (plain-alike v) ∙ at (plain_urgent v) where
     at : (o : Option ℕ) → option_and_then (slice_get (map (edge_renumbered f) v.edges)) o ≡ option_map (edge_renumbered f) (option_and_then (slice_get v.edges) o)
     at None = refl
-    at (Some k) = get-map (edge_renumbered f) v.edges k
+    at (Some k) = slice_get-map (edge_renumbered f) v.edges k
 
   pub target-alike : (v : EventVertex) → target_at_once (vertex_renumbered f v) ≡ option_map f (target_at_once v)
   target-alike v = ap (option_map (λ (e : EventEdge). e.target)) (edge-alike v) ∙ at (plain_urgent_edge v) where

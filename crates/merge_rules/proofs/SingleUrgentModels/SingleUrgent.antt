@@ -1,7 +1,8 @@
 -- In a single urgent model at most one urgent edge of a vertex is taken, and so at most one event is urgent.
-use Rattle.std.proofs.Common.{◌≡◌, ℕ, zero, suc, ◌^◌, ◌≤◌, ℤ, pos, Bool, true, false, cond, ◌&&◌, IsTrue, List, [], ◌∷◌, length, map, filter, slice_index_or, Ok, refl, ◌∙◌, ap, subst, arith}
+use Rattle.std.proofs.Common.{◌≡◌, ℕ, ◌^◌, ◌≤◌, ℤ, pos, Bool, true, false, cond, ◌&&◌, IsTrue, List, [], ◌∷◌, length, map, filter, Ok, refl, ◌∙◌, ap, subst, arith}
 use Rattle.std.proofs.lemmas.Int.{ints}
 use Rattle.std.specs.List.{list_all, AllByRecursion}
+use Rattle.sig_base.proofs.Lists.{slice_index_or-all}
 use Rattle.sig_base.proofs.Tests.{not_both}
 use Rattle.model_core.specs.declared.model.Kind.TheVariants as kinds
 use Rattle.model_core.specs.EventGraph.{EventGraph, Variable, Expression, EventVertex, EventEdge, EdgeKind, Schedule, Urgent, CancelNext, CancelEqual, CancelAll}
@@ -58,12 +59,6 @@ module _ (g : EventGraph) (never : NeverBoth g) (s : State) (inside : IsTrue (in
 
 -- ---- vertices of a model that keeps its rules
 
--- a fact of the vertex at each place, where it is one of every vertex and of none
-pub at_each_place : (P : EventVertex → Type 0) → P no_vertex → (vs : List EventVertex) → AllByRecursion P vs → (k : ℕ) → P (slice_index_or vs k no_vertex)
-at_each_place P none [] all k = none
-at_each_place P none (v ∷ vs) (p, all) zero = p
-at_each_place P none (v ∷ vs) (p, all) (suc k) = at_each_place P none vs all k
-
 timed : (variables : List Variable) (tables : ℕ) (takes : List (List ℕ)) (kind : EdgeKind) → KeepsTiming variables tables takes kind → PriorityOk kind
 timed variables tables takes (Schedule delay priority) keeps = omega (arith, keeps.1)
 timed variables tables takes Urgent keeps = tt
@@ -73,8 +68,8 @@ timed variables tables takes CancelAll keeps = tt
 
 pub edges_keep : (g : EventGraph) → KeepsParts g → (k : ℕ) → AllByRecursion (KeepsEdge g.variables (length g.tables) (parameters_of g)) (vertex_at g k).edges
 edges_keep g keeps k =
-    at_each_place (λ (v : EventVertex). AllByRecursion (KeepsEdge g.variables (length g.tables) (parameters_of g)) v.edges) tt g.vertices
-    (every-map (KeepsVertex g.variables (length g.tables) (parameters_of g)) _ (λ v keeps. keeps.edges) g.vertices keeps.vertices) k
+    slice_index_or-all (λ (v : EventVertex). AllByRecursion (KeepsEdge g.variables (length g.tables) (parameters_of g)) v.edges) g.vertices no_vertex k
+    (every-map (KeepsVertex g.variables (length g.tables) (parameters_of g)) _ (λ v keeps. keeps.edges) g.vertices keeps.vertices) tt
 
 pub priorities_above_zero : (g : EventGraph) → KeepsParts g → (k : ℕ) → AllByRecursion (λ (e : EventEdge). PriorityOk e.kind) (vertex_at g k).edges
 priorities_above_zero g keeps k =
@@ -87,4 +82,4 @@ pair_apart g (v ∷ vs) e = (and_first (each_pair (exclusive g) (urgent_conditio
 pub exclusive_vertices : (g : EventGraph) → KeepsParts g → NeverBoth g → single_urgent g ≡ true → (k : ℕ) (s : State) → IsTrue (in_range g s) → (clk : ℕ) → clk ≤ 2 ^ 48 → Exclusive g s clk (vertex_at g k).edges
 exclusive_vertices g keeps never single k s inside clk early =
     exclusive_edges g never s inside clk early (vertex_at g k).edges (edges_keep g keeps k)
-    (at_each_place (λ (v : EventVertex). each_pair (exclusive g) (urgent_conditions v.edges) ≡ true) refl g.vertices (pair_apart g g.vertices single) k)
+    (slice_index_or-all (λ (v : EventVertex). each_pair (exclusive g) (urgent_conditions v.edges) ≡ true) g.vertices no_vertex k (pair_apart g g.vertices single) refl)
