@@ -11,7 +11,7 @@ use Rattle.model_core.specs.Text.Written as written
 use Rattle.model_core.specs.Text.Written.{WrittenExpression}
 use Rattle.model_core.specs.Text.Expressions.{place}
 use Rattle.model_core.specs.Text.Numbering as numbering
-use Rattle.model_core.specs.Text.Numbering.{◌>>=◌, each_numbered, declared_place, Declared}
+use Rattle.model_core.specs.Text.Numbering.{each_numbered, declared_place, Declared}
 use Rattle.model_core.specs.Static.Meanings.{Meaning, AsArray}
 use Rattle.model_core.specs.Static.Kinds.{known_or, result_kind, operand_kind, expression_kind}
 use Rattle.model_core.specs.Static.RuleTable.{kind_mismatch}

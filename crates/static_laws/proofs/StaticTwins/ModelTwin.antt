@@ -12,7 +12,7 @@ use Rattle.model_core.specs.Text.Lexing.{same_bytes}
 use Rattle.model_core.specs.Text.Canonical.{canonical}
 use Rattle.model_core.specs.Text.Written.{WrittenVariable, WrittenTable, WrittenVertex, WrittenModel, WrittenEdge}
 use Rattle.model_core.specs.Text.Numbering as numbering
-use Rattle.model_core.specs.Text.Numbering.{◌>>=◌, each_numbered, written_or, Declared, declared_by, numbered}
+use Rattle.model_core.specs.Text.Numbering.{each_numbered, written_or, Declared, declared_by, numbered}
 use Rattle.model_core.specs.Text.Spellable.{declared_names}
 use Rattle.model_core.specs.Static.FaultOrder.{StaticFault}
 use Rattle.model_core.specs.Static.Meanings.{declarations, declared_name}

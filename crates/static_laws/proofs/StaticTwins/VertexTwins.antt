@@ -13,7 +13,7 @@ use Rattle.model_core.specs.Text.Lexing.{same_bytes}
 use Rattle.model_core.specs.Text.Written as written
 use Rattle.model_core.specs.Text.Written.{WrittenName, WrittenExpression, WrittenDelay, WrittenEdgeKind, WrittenEdge, WrittenVertex}
 use Rattle.model_core.specs.Text.Numbering as numbering
-use Rattle.model_core.specs.Text.Numbering.{◌>>=◌, each_numbered, written_or, declared_place, Declared, natural}
+use Rattle.model_core.specs.Text.Numbering.{each_numbered, written_or, declared_place, Declared, natural}
 use Rattle.model_core.specs.Static.FaultOrder.{StaticFault}
 use Rattle.model_core.specs.Static.Meanings.{Meaning, MeansVertex, AsScalar, AsVertex}
 use Rattle.model_core.specs.Static.RuleTable.{name_too_long, value_count, too_many}
