@@ -1,6 +1,6 @@
 //! The tokens of a text that are left to read.
 
-ghost use Rattle.std.specs.Prelude.{◌≡◌, ◌≢◌, ℕ, ◌+◌, ◌≤◌, true, false, None, List, [], drop, length, map, slice_range, IfOk, IfErr};
+ghost use Rattle.std.specs.Prelude.{◌≡◌, ◌≢◌, ℕ, ◌+◌, ◌≤◌, true, false, None, List, drop, length, map, slice_range, IfOk, IfErr};
 ghost use Rattle.std.specs.Option.{option_map, is_some, IfSome};
 ghost use Rattle.model_core.specs.declared.token.Word.TheVariants.{Not};
 ghost use Rattle.model_core.specs.Code.WrittenViews.{written_name, written_number};

@@ -1,10 +1,9 @@
 //! Expressions. They alone nest, so these functions alone are recursive.
 
-ghost use Rattle.std.specs.Prelude.{◌≡◌, ◌+◌, ◌≤◌, true, false, Some, length, IfOk};
+ghost use Rattle.std.specs.Prelude.{◌≡◌, ◌+◌, ◌≤◌, Some, length, IfOk};
 ghost use Rattle.std.specs.Option.{option_map};
 ghost use Rattle.model_core.specs.Code.Views.{operator_of};
 ghost use Rattle.model_core.specs.Code.WrittenViews.{written_name, written_expression};
-ghost use Rattle.model_core.specs.declared.token.Word.TheVariants.{Not};
 ghost use Rattle.model_core.specs.Text.Format.{ByRule, maybe};
 ghost use Rattle.model_core.specs.Text.Expressions.{Unary, Primary, joining, whole_format, unary_format, primary_format, index_format, of_name, in_parentheses_format, call_format, expression_format};
 ghost use Rattle.text_laws.specs.FormatReader.{took, and_next};

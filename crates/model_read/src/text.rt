@@ -1,6 +1,6 @@
 //! Reads a whole model text, and the text that pieces begin with.
 
-ghost use Rattle.std.specs.Prelude.{◌≡◌, ℕ, ◌≤◌, List, [], None, Some, length, drop, IfOk};
+ghost use Rattle.std.specs.Prelude.{◌≡◌, ℕ, ◌≤◌, [], None, Some, length, drop, IfOk};
 ghost use Rattle.sig_base.specs.declared.limits.TheConstants.{OPENINGS_MAX};
 ghost use Rattle.std.specs.Option.{option_map};
 ghost use Rattle.model_core.specs.Code.WrittenViews.{written_number, written_model};
