@@ -1,6 +1,6 @@
 //! Edges: their targets, the values that they carry, their delays, priorities and conditions.
 
-ghost use Rattle.std.specs.Prelude.{◌≡◌, pos, true, [], Some, None, IfOk, map, List, Option};
+ghost use Rattle.std.specs.Prelude.{◌≡◌, pos, true, [], Some, IfOk, map, List, Option};
 ghost use Rattle.std.specs.List.{flat_map};
 ghost use Rattle.std.specs.Option.{option_map};
 ghost use Rattle.model_core.specs.declared.model.Kind.{Kind as KnownKind};

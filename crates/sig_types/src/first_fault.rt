@@ -1,6 +1,6 @@
 //! The first fault: of those met so far the one of the least place, and at one place the first of the table.
 
-ghost use Rattle.std.specs.Prelude.{◌≡◌, Bool, None, Some};
+ghost use Rattle.std.specs.Prelude.{◌≡◌, Bool, None};
 ghost use Rattle.std.specs.Option.{option_map};
 ghost use Rattle.model_core.specs.Static.FaultOrder.{StaticFault, rule_row, is_earlier_fault, earliest_fault, fault_where};
 
