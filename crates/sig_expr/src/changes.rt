@@ -3,7 +3,7 @@
 ghost use Rattle.std.specs.Prelude.{◌≡◌, ℕ, [], ◌∷◌, ◌+◌, ◌<◌, ◌≤◌, ◌^◌, All, IsTrue, length, map};
 ghost use Rattle.sig_base.specs.declared.limits.TheConstants.{CHANGES_MAX, STOP_MAX};
 ghost use Rattle.sig_base.specs.Stream.{word};
-ghost use Rattle.model_core.specs.EventGraph.{Set, Draw};
+ghost use Rattle.model_core.specs.EventGraph.{Draw};
 ghost use Rattle.model_core.specs.Run.State.{in_range};
 ghost use Rattle.model_core.specs.Run.Value.{in_turn};
 ghost use Rattle.model_core.specs.Run.Changes.{set_all, drawn_value, make_change, taken_from, one_more};

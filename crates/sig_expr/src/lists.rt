@@ -1,6 +1,6 @@
 //! The values of several expressions, and the places that several targets name.
 
-ghost use Rattle.std.specs.Prelude.{◌≡◌, [], ◌<◌, ◌≤◌, All, IsTrue, length, map};
+ghost use Rattle.std.specs.Prelude.{◌≡◌, [], ◌≤◌, All, IsTrue, length, map};
 ghost use Rattle.sig_base.specs.declared.limits.TheConstants.{TARGETS_MAX, STOP_MAX};
 ghost use Rattle.model_core.specs.Run.State.{in_range};
 ghost use Rattle.model_core.specs.Run.Value.{each, value_of, place_of};
