@@ -166,9 +166,6 @@ numbers-rest test n events rest (Some x) h all = (each-of_placed (λ y. y.number
 pub numbers-more : (x : Item) (n : ℕ) (events : List Item) → x.number ≡ n → AllByRecursion (λ y. y.number < n) events → AllByRecursion (λ y. y.number < n + 1) (placed x events)
 numbers-more x n events e all = each-placed (λ y. y.number < n + 1) x events (omega arith) (every-map (λ (y : Item). y.number < n) (λ (y : Item). y.number < n + 1) (λ y l. omega arith) events all)
 
-pub new-numbers : (n m : ℕ) (events : List Item) → m ≡ n → AllByRecursion (λ y. y.number < n) events → AllByRecursion (λ y. y.number ≢ m) events
-new-numbers n m events e all = every-map (λ (y : Item). y.number < n) (λ (y : Item). y.number ≢ m) (λ y l. omega arith) events all
-
 pub fewer-entries : (test : Entry → Bool) (events rest : List Item) (o : Option Item) → IsWithoutNext test events rest o → length (option_to_list o) + length (entries_of rest) ≡ length (entries_of events)
 fewer-entries test events rest o h =
     let a = length-map events (λ (x : Item). x.entry) in

@@ -1,6 +1,6 @@
 //! The tournament before any vertex has a key.
 
-ghost use Rattle.std.specs.Prelude.{◌≡◌, ◌+◌, ◌*◌, ◌<◌, replicate, None, IfOk};
+ghost use Rattle.std.specs.Prelude.{◌≡◌, replicate, None, IfOk};
 ghost use Rattle.event_heap.specs.Inner.Games.{IsPlayed};
 ghost use Rattle.event_heap.specs.Inner.Opening.{IsSeated, IsOpened};
 
