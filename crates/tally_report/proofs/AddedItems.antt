@@ -59,16 +59,3 @@ added_all (x ∷ xs) [] zero enough = refl
 added_all (x ∷ xs) [] (suc n) enough = ap (λ ys. x ∷ ys) (take-append-drop n xs)
 added_all (x ∷ xs) (y ∷ others) zero enough = absurd (omega (arith, enough))
 added_all (x ∷ xs) (y ∷ others) (suc n) enough = ap (λ ys. item_added x y ∷ ys) (added_all xs others n (omega (arith, enough)))
-
--- an item that isn't added to yet is of few runs
-pub read-all : (P : Item → Type 0) (xs others now : List Item) (i : ℕ) (x : Item) → All P xs → i < length xs → now ≡ items_added (take i xs) others ++ drop i xs → x ≡ get_or now i x → P x
-read-all P xs others now i x all within so_far read =
-    subst P (sym (read ∙ ap (λ ys. get_or ys i x) so_far ∙ added-read xs others i x within)) (all i x within)
-
--- a list that is added to stays as long
-pub as_long_added : (xs others : List Item) (i : ℕ) → length (items_added (take i xs) others ++ drop i xs) ≡ length xs
-as_long_added [] others zero = refl
-as_long_added [] others (suc i) = refl
-as_long_added (x ∷ xs) others zero = refl
-as_long_added (x ∷ xs) [] (suc i) = ap (λ ys. suc (length ys)) (take-append-drop i xs)
-as_long_added (x ∷ xs) (y ∷ others) (suc i) = ap suc (as_long_added xs others i)

@@ -1,7 +1,7 @@
 //! A report: its header, the rows of a run and those of the totals.
 
 ghost use Rattle.std.specs.Prelude.{◌≡◌, ◌++◌, drop, length, map, IfOk, OnOk};
-ghost use Rattle.std.specs.List.{range_with_len, flat_map};
+ghost use Rattle.std.specs.List.{range_with_len};
 ghost use Rattle.model_core.specs.Code.Views.{graph_of, variable_of, watched_of};
 ghost use Rattle.tally_report.specs.ReportText.{cell_name, names_of_variable, names_watched, header_row, end_word, item_rows, item_names, run_rows, total_rows};
 ghost use Rattle.tally_report.specs.Inner.Headings.{heading_of};

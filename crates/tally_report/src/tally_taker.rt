@@ -3,7 +3,7 @@
 ghost use Rattle.std.specs.Prelude.{◌≡◌, max, All, map, IfOk};
 ghost use Rattle.model_core.specs.Code.Views.{graph_of, watched_of};
 ghost use Rattle.tally_report.specs.Inner.Sums.{IsSmall};
-ghost use Rattle.tally_report.specs.Inner.Sums.{held_until, sums_from, tally_of_sums};
+ghost use Rattle.tally_report.specs.Inner.Sums.{sums_from, tally_of_sums};
 
 use crate::run_tally::{RunEnd, RunTally};
 use crate::sums::{Sum, count_at, first_sums, items_until, take_values};
