@@ -43,9 +43,6 @@ pub stream_passed : (least next : ℕ) (s : WrittenStream) (later : List Written
 stream_passed least next s later total good is so_far =
     ap (λ n. first_bad_part (stream_parts n later)) is ∙ sym (passed (record { good = stream_good least s; at = s.at }) (stream_parts (suc (number_or_zero s.stream)) later) good) ∙ so_far
 
-pub stream_reported : (least : ℕ) (s : WrittenStream) (later : List WrittenStream) (total : Option ℕ) → stream_good least s ≡ false → first_bad_part (stream_parts least (s ∷ later)) ≡ total → total ≡ Some s.at
-stream_reported least s later total bad so_far = sym so_far ∙ first_bad-here (record { good = stream_good least s; at = s.at }) (stream_parts (suc (number_or_zero s.stream)) later) bad
-
 pub one_stream_more : (least number words : ℕ) (s : WrittenStream) (later : List WrittenStream) (taken : List ℕ) (first : Option ℕ) (all : List ℕ) → Some (number, words) ≡ if_good (stream_good least s) (stream_taken s) → number < 64
     → first_bad_part (stream_parts least (s ∷ later)) ≡ first → with_taken (s ∷ later) taken ≡ all → length taken ≡ 64
     → (first_bad_part (stream_parts (number + 1) later) ≡ first) × (with_taken later (slice_set taken number words) ≡ all) × (length (slice_set taken number words) ≡ 64) × (number + 1 ≤ 64)

@@ -1,6 +1,6 @@
 -- Passing over a format leaves what reading it leaves, and a loop that passes over a part again and again passes over
 -- all.
-use Rattle.std.proofs.Common.{◌≡◌, ℕ, suc, ◌≤◌, ◌<◌, Bool, true, false, cond, List, [], ◌∷◌, length, refl, sym, ap, ◌∙◌, arith}
+use Rattle.std.proofs.Common.{◌≡◌, ℕ, suc, ◌≤◌, Bool, true, false, cond, List, [], ◌∷◌, length, refl, sym, ap, ◌∙◌, arith}
 use Rattle.std.specs.Prelude.{Ok, Err}
 use Rattle.model_core.specs.Text.Lexing.{Lexeme}
 use Rattle.model_core.specs.Text.Format.{Yields, Single, Apply, Either, Many, ByRule}
@@ -80,14 +80,6 @@ module _ {A : Type 0} (f : LanguageFormat A) (some : nullable f ≡ false) where
       ap skimmed m
 
 -- ---- no token is left after it
-
-pub whole-none : (tokens : List Lexeme) → length tokens ≡ 0 → whole_read {A = Unit {0}} tt tokens ≡ took tt tokens
-whole-none [] e = refl
-whole-none (t ∷ tokens) e = absurd (omega (arith, e))
-
-pub whole-some : (tokens : List Lexeme) → 0 < length tokens → whole_read {A = Unit {0}} tt tokens ≡ stuck tokens
-whole-some [] some = absurd (omega (arith, some))
-whole-some (t ∷ tokens) some = refl
 
 whole-skimmed : {A : Type 0} (r : Parse A) → and_next whole_read (skimmed r) ≡ skimmed (and_next whole_read r)
 whole-skimmed (Ok r) = by r.1 where

@@ -11,7 +11,7 @@ ghost use Rattle.snapshot_text.specs.Inner.RawParts.{written_noted};
 use crate::parts::{RawNoted, written_values};
 use crate::snapshot_error::SnapshotError;
 use crate::values::watched_values_of;
-use model_core::{Model, RawSigned};
+use model_core::Model;
 use sig_base::List;
 use std::alloc::Global;
 

@@ -1,6 +1,6 @@
 //! Numbers of a snapshot, where they are in their limits.
 
-ghost use Rattle.std.specs.Prelude.{◌≡◌, ◌≤◌, ◌<◌, IfSome};
+ghost use Rattle.std.specs.Prelude.{◌≡◌, ◌≤◌, IfSome};
 ghost use Rattle.model_core.specs.Code.WrittenViews.{written_number};
 ghost use Rattle.model_core.specs.Text.Numbering.{natural};
 ghost use Rattle.model_core.specs.Saved.GoodSnapshots.{number_or_zero, is_at_most, from_one_to};

@@ -2,7 +2,6 @@
 //! them.
 
 ghost use Rattle.std.specs.Prelude.{◌≡◌, ℕ, drop, None, Some};
-ghost use Rattle.model_core.specs.declared.token.Word.TheVariants.{Clk, End};
 ghost use Rattle.model_core.specs.declared.token.Symbol.TheVariants as symbols;
 ghost use Rattle.model_core.specs.Text.Format.{Many, mark, reserved, this_name, any_name, any_number, ◌*>◌, maybe, separated};
 ghost use Rattle.model_core.specs.Text.Language.{signed_format};
