@@ -1,6 +1,6 @@
 -- A state whose variables take their values one after the other.
-use Rattle.std.proofs.Common.{◌≡◌, ℕ, zero, suc, ◌+◌, ◌-◌, ◌<◌, ◌≤◌, ℤ, true, List, [], ◌∷◌, ◌++◌, length, map, take, drop, replicate, slice_index_or, slice_set, refl, sym, ap, ap₂, ◌∙◌, subst, arith, add-one, append-nil, append_assoc, drop-cons, length-drop}
-use Rattle.std.proofs.lemmas.List.{take_all, take_more_set, drop-drop, length-replicate, length-map, length-set, drop_all}
+use Rattle.std.proofs.Common.{◌≡◌, ℕ, zero, suc, ◌+◌, ◌-◌, ◌<◌, ◌≤◌, ℤ, true, List, [], ◌∷◌, ◌++◌, length, map, take, drop, replicate, slice_index_or, slice_set, refl, sym, ap, ap₂, ◌∙◌, subst, arith, add-one, append_assoc, drop-cons, length-drop}
+use Rattle.std.proofs.lemmas.List.{take_more_set, drop-drop, length-replicate, length-set}
 use lib.Pointwise.{pointwise_long}
 use Rattle.model_core.specs.EventGraph.{Variable}
 use Rattle.model_core.specs.Run.State.{State, no_variable, cell_count, within, in_ranges}
@@ -24,20 +24,6 @@ module _ (variables : List Variable) (values : List ℤ) where
     pub filled : cut_up (map cell_count variables) values ≡ take i s ++ cut_up (map cell_count (drop i variables)) (drop from values)
     pub fresh : drop i s ≡ beginnings (drop i variables)
     pub within_all : from ≤ length values
-
-  pub none_filled : (s : State) → s ≡ beginnings variables → in_ranges (cell_variables variables) values ≡ true → Filled 0 0 s
-  none_filled s begun inside = record {
-    many = ap length begun ∙ length-map variables (λ v. replicate (cell_count v) v.initial);
-    inside = inside;
-    filled = refl;
-    fresh = begun;
-    within_all = omega arith;
-  }
-
-  pub all_filled : (i from : ℕ) (s : State) → length variables ≤ i → Filled i from s → s ≡ cut_up (map cell_count variables) values
-  all_filled i from s all f =
-      let no_more : drop i variables ≡ [] = drop_all i variables all in
-      sym (take_all i s (omega (arith, f.many, all))) ∙ sym (append-nil (take i s)) ∙ ap (λ vs. take i s ++ cut_up (map cell_count vs) (drop from values)) (sym no_more) ∙ sym f.filled
 
   module _ (i from : ℕ) (s : State) (below : i < length variables) (f : Filled i from s) where
     abbrev v : Variable
@@ -74,9 +60,6 @@ module _ (variables : List Variable) (values : List ℤ) where
     module _ (piece : List ℤ) (is : piece ≡ take (from + length (slice_index_or s i []) - from) (drop from values)) where
       piece-is : piece ≡ take (cell_count v) (drop from values)
       piece-is = let n : from + length (slice_index_or s i []) - from ≡ cell_count v = omega (arith, row_long) in is ∙ ap (λ k. take k (drop from values)) n
-
-      pub piece_matched : length piece ≡ length (slice_index_or s i [])
-      piece_matched = ap length piece-is ∙ piece_long ∙ sym row_long
 
       pub piece_inside : in_ranges (replicate (length piece) v) piece ≡ true
       piece_inside = ap₂ (λ n xs. in_ranges (replicate n v) xs) (ap length piece-is ∙ piece_long) piece-is ∙ parts.0
