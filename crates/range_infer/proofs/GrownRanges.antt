@@ -31,10 +31,6 @@ module _ (g : EventGraph) where
       all_grown (grown_by g ranges i) is v (omega (arith, small, length-set ranges i.variable (hull (range_at ranges i.variable) (kept_range (variable_at g i.variable) i.bounds)))) ∙
       ap (λ (r : VarRange). fold (grown_range g v) r is) (one_grown ranges i v small)
 
-  pub many_grown : (ranges : List VarRange) (is : List Incoming) → length (fold (grown_by g) ranges is) ≡ length ranges
-  many_grown ranges [] = refl
-  many_grown ranges (i ∷ is) = many_grown (grown_by g ranges i) is ∙ length-set ranges i.variable (hull (range_at ranges i.variable) (kept_range (variable_at g i.variable) i.bounds))
-
   pub next_given : (late : Bool) (ranges all : List VarRange) (takes : List Incoming) (v : ℕ) → v < length ranges → all ≡ fold (grown_by g) ranges takes → cond (is_fixed g v) (range_at ranges v) (ends_moved late (declared_range (variable_at g v)) (range_at ranges v) (range_at all v)) ≡ next_range g late takes ranges v
   next_given late ranges all takes v small is =
       ap (λ (r : VarRange). cond (is_fixed g v) (range_at ranges v) (ends_moved late (declared_range (variable_at g v)) (range_at ranges v) r)) (ap (λ (rs : List VarRange). range_at rs v) is ∙ all_grown ranges takes v small)

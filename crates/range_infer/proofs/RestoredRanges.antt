@@ -85,11 +85,4 @@ one_put_back n ranges next xs ys r small popped set =
       ap (λ (rs : List VarRange). put_back rs (drop n ys)) set ∙ sym (ap (λ (zs : List ReplacedRange). put_back ranges (drop n zs)) popped ∙ (ap (put_back ranges) (drop-append-le n ys (r ∷ []) few) ∙ put_back-append ranges (drop n ys) (r ∷ []))),
     )
 
-pub all_put_back : (n : ℕ) (old first now : RangesLeft) → n ≡ length old.replaced.items → length now.replaced.items ≤ n → RestoresTo old first → PutBackTo n first now → StaysLeft old now
-all_put_back n old first now is few leads to = record {
-  model = to.model ∙ leads.model;
-  ranges = ap (put_back now.ranges.items) (sym (drop_all n now.replaced.items few)) ∙ (to.back ∙ (ap (λ (k : ℕ). put_back first.ranges.items (drop k first.replaced.items)) is ∙ leads.back));
-  replaced = sym (take_all n now.replaced.items few) ∙ (to.before ∙ (ap (λ (k : ℕ). take k first.replaced.items) is ∙ leads.before));
-}
-
 pub ruleset restores_through = (same_variables, stays-trans, stays-back, back-trans, back-stays)

@@ -1,7 +1,7 @@
 //! The bounds of an expression under the ranges that are left where it is evaluated.
 #![tactic(auto, using(crate::proofs::RestoredRanges::restores_through))]
 
-ghost use Rattle.std.specs.Prelude.{◌≡◌, List, length, pos, int_le, int_lt, ◌&&◌, true, false, IfOk, OnOk};
+ghost use Rattle.std.specs.Prelude.{◌≡◌, List, length, pos, int_le, int_lt, ◌&&◌, true, IfOk, OnOk};
 ghost use Rattle.model_core.specs.EventGraph.{Variable, Expression};
 ghost use Rattle.model_core.specs.Run.State.{variable_at};
 ghost use Rattle.model_core.specs.Rules.BoundsTable.{kind_bounds, variable_bounds, quiet_index};

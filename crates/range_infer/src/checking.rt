@@ -5,7 +5,7 @@ ghost use Rattle.std.specs.List.{fold};
 ghost use Rattle.model_core.specs.Run.State.{variable_at};
 ghost use Rattle.model_core.specs.Code.Views.{graph_of};
 ghost use Rattle.model_core.specs.Ranges.OtherRanges.{LiesIn, range_at};
-ghost use Rattle.model_core.specs.Ranges.Incoming.{incoming, kept_range};
+ghost use Rattle.model_core.specs.Ranges.Incoming.{kept_range};
 ghost use Rattle.model_core.specs.Ranges.Inductive.{Fitting};
 ghost use Rattle.range_infer.specs.RangeVerdicts.{VerdictHolds};
 ghost use Rattle.range_infer.specs.Inner.RangeTests.{encloses_kept, first_after};

@@ -8,7 +8,6 @@ ghost use Rattle.model_core.specs.Rules.BoundsOfParts.{is_truth_kind};
 ghost use Rattle.model_core.specs.Ranges.Inductive.{is_fixed, Fitting};
 ghost use Rattle.range_infer.specs.Inner.RangeTests.{range_fits};
 
-use crate::keeping::declared_range;
 use model_core::{Kind, Model, Var, VarRange};
 
 fn is_among(vars: &[usize], var: usize) -> bool

@@ -7,7 +7,6 @@ ghost use Rattle.model_core.specs.Code.Views.{graph_of, variable_of};
 ghost use Rattle.model_core.specs.Ranges.OtherRanges.{declared_range, with_range, with_ranges, model_with_ranges};
 ghost use Rattle.model_core.specs.Static.Reading.{IsValid};
 ghost use Rattle.model_core.specs.Ranges.Narrowed.{with_ranges_if_short, IsNarrowed};
-ghost use Rattle.model_core.specs.Ranges.Inductive.{Inductive};
 ghost use Rattle.range_infer.specs.RangeVerdicts.{MayNarrow, NarrowRefused};
 
 use crate::checking::check_ranges;

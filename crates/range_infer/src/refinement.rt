@@ -1,7 +1,7 @@
 //! The ranges that are left where an expression is known to be true, or to be false.
 #![tactic(auto, using(crate::proofs::RestoredRanges::restores_through))]
 
-ghost use Rattle.std.specs.Prelude.{◌≡◌, ◌≤◌, Some, length, slice_set, cond, OnOk};
+ghost use Rattle.std.specs.Prelude.{◌≡◌, Some, length, slice_set, cond, OnOk};
 ghost use Rattle.range_bounds.specs.Near.{IsNear};
 ghost use Rattle.model_core.specs.Rules.BoundsOf.{ranged_at};
 ghost use Rattle.model_core.specs.Code.Views.{expression_of, operator_of};
