@@ -8,23 +8,19 @@ use Rattle.model_core.specs.Rules.Reached.{reached_marks, unreached}
 use Rattle.model_core.specs.Rules.LeastRelations.{Reachable, reach_first, reach_watched, reach_over}
 use Rattle.model_core.specs.Rules.Drop.{edge_renumbered, vertex_renumbered, watched_renumbered, only_marked}
 use Rattle.mark_laws.proofs.Marks.{Marked, marked-placed, old_place}
-use Rattle.model_core.proofs.Among.{Among, among-contained, contained-among, among-map, of-among}
+use Rattle.model_core.proofs.Among.{Among, among-contained, contained-among, among-map}
 use Rattle.mark_laws.proofs.ReachedLong.{reached_marks-long}
 use Rattle.edge_pruning.proofs.ReachedMarks.{has_edges, reachable-marked, reached_marks-hold, reached_marks-reachable}
 use Rattle.mark_laws.proofs.Ranks.{rank-none}
 use Rattle.mark_laws.proofs.UnmarkedPlaces.{none_unmarked}
 use Rattle.model_core.proofs.Images.{at-map}
-use Rattle.edge_pruning.proofs.DropSame.{NamesVertices}
 
-module _ (g : EventGraph) (names : NamesVertices g) where
+module _ (g : EventGraph) where
   abbrev marks : List Bool
   marks = reached_marks g
 
   abbrev h : EventGraph
   h = only_marked g marks
-
-  target_within : (k : ℕ) (e : EventEdge) → Among e (vertex_at g k).edges → e.target < length g.vertices
-  target_within k e among = of-among (λ (e : EventEdge). e.target < length g.vertices) (vertex_at g k).edges e (names.edges k) among
 
   edges_there : (k : ℕ) → Marked marks k → (vertex_at h (rank marks k)).edges ≡ map (edge_renumbered (rank marks)) (vertex_at g k).edges
   edges_there k marked =

@@ -38,14 +38,6 @@ module _ {A : Type 0} where
     later (inl at) = inl at
     later (inr left) = inr (inr left)
 
-  -- what is left without a place was there
-  left-among : (xs : List A) (place : ℕ) (x : A) → Among x (remove xs place) → Among x xs
-  left-among [] zero x h = absurd h
-  left-among [] (suc place) x h = absurd h
-  left-among (y ∷ ys) zero x h = inr h
-  left-among (y ∷ ys) (suc place) x (inl e) = inl e
-  left-among (y ∷ ys) (suc place) x (inr h) = inr (left-among ys place x h)
-
 among-at : (vs : List EventVertex) (v : EventVertex) → Among v vs → (k : ℕ) × (slice_index_or vs k no_vertex ≡ v)
 among-at [] v h = absurd h
 among-at (w ∷ vs) v (inl e) = (zero, e)

@@ -1,6 +1,6 @@
 //! Drop: the vertices that can't be reached, and the model without them.
 
-ghost use Rattle.std.specs.Prelude.{◌≡◌, ◌<◌, true, false, None, OnOk, OnErr, IfOk, IfErr};
+ghost use Rattle.std.specs.Prelude.{◌≡◌, false, None, OnOk, OnErr, IfOk, IfErr};
 ghost use Rattle.model_core.specs.Rules.Conditions.{first_failed};
 ghost use Rattle.model_core.specs.Rules.RefusedCondition.{NamesCondition};
 ghost use Rattle.model_core.specs.Rules.Reached.{unreached};

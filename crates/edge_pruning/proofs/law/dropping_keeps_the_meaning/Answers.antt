@@ -28,5 +28,4 @@ returns-clause-same c = λ g vertices valid none.
 
 pub returns-clause-all_reached : goal.returns-clause-all_reached
 returns-clause-all_reached c = λ g vertices valid none.
-    let p = (c.validity_is_by_parts.ensures.by_parts g).0 valid in
-    subst (λ (h : EventGraph). unreached h ≡ []) (sym (ap (dropped g) (lists_unreached g vertices none) ∙ without_unreached g)) (all_reached g (names_vertices g p.1))
+    subst (λ (h : EventGraph). unreached h ≡ []) (sym (ap (dropped g) (lists_unreached g vertices none) ∙ without_unreached g)) (all_reached g)
