@@ -1,17 +1,11 @@
--- The elements of a list but the one at a place; and two tests of which the first may decide.
-use Rattle.std.proofs.Common.{◌≡◌, ℕ, zero, suc, ◌+◌, ◌-◌, Bool, true, false, ◌&&◌, List, [], ◌∷◌, ◌++◌, map, take, drop, length, refl, sym, ◌∙◌, ap, arith, length-drop}
+-- The elements of a list but the one at a place.
+use Rattle.std.proofs.Common.{◌≡◌, ℕ, zero, suc, ◌+◌, ◌-◌, List, [], ◌∷◌, ◌++◌, map, take, drop, length, refl, sym, ◌∙◌, ap, arith, length-drop}
 use Rattle.std.proofs.lemmas.List.{take_all}
 use Rattle.model_core.proofs.Images.{map-remove}
 use Rattle.std.specs.List.{remove}
 
 next_place : (k : ℕ) → suc k ≡ k + 1
 next_place k = omega arith
-
-pub second-both : (a b x y : Bool) → x ≡ a → x ≡ true → y ≡ b → y ≡ (a && b)
-second-both a b x y is holds so = so ∙ ap (λ c. c && b) (sym holds ∙ is)
-
-pub first_fails : (a b x : Bool) → x ≡ a → x ≡ false → x ≡ (a && b)
-first_fails a b x is fails = fails ∙ ap (λ c. c && b) (sym fails ∙ is)
 
 -- the elements before the place and those after it are all but the one there
 taken_out : {A : Type 0} (xs : List A) (k : ℕ) → remove xs k ≡ take k xs ++ drop (suc k) xs

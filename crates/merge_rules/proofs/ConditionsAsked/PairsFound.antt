@@ -1,11 +1,11 @@
 -- The last condition, the pair at a vertex, and the first pair of all, as the code finds them.
-use Rattle.std.proofs.Common.{◌≡◌, ◌∙◌, ℕ, zero, suc, ◌+◌, ◌-◌, ◌<◌, ◌≤◌, nat_le, Bool, true, false, cond, List, [], ◌∷◌, ◌++◌, length, min, slice_get, Option, Some, None, option_map, take, refl, sym, ap, arith}
+use Rattle.std.proofs.Common.{◌≡◌, ◌∙◌, ℕ, zero, suc, ◌+◌, ◌-◌, ◌<◌, nat_le, Bool, true, false, cond, List, [], ◌∷◌, ◌++◌, length, min, slice_get, Option, Some, None, option_map, take, refl, sym, ap, arith}
 use Rattle.std.proofs.lemmas.Bool.Decides.{nat_tests}
 use Rattle.std.specs.Prelude.{is_none, is_some, filter_map}
 use Rattle.std.specs.List.{range_with_len, cons_option}
 use Rattle.std.specs.Option.{option_map_or, option_or}
 use Rattle.sig_base.specs.declared.limits.TheConstants.{TEXT_MAX}
-use Rattle.sig_base.proofs.Lists.{places_from, no_places_from}
+use Rattle.sig_base.proofs.Lists.{places_from}
 use Rattle.model_core.specs.EventGraph.{EventGraph, EventEdge}
 use Rattle.model_core.specs.Run.Step.{vertex_at}
 use Rattle.model_core.specs.Text.Canonical.{canonical}
@@ -80,9 +80,6 @@ module _ {X : Type 0} (h : ℕ → Option X) where
   found_later i n below is =
       ap (λ m. slice_get (filter_map h (range_with_len i m)) 0) (places_from i n below)
       ∙ ap (λ o. slice_get (cons_option o (filter_map h (range_with_len (i + 1) (n - (i + 1))))) 0) is
-
-  pub none_left : (i n : ℕ) → n ≤ i → first_from i n ≡ None
-  none_left i n past = ap (λ m. slice_get (filter_map h (range_with_len i m)) 0) (no_places_from i n past)
 
   -- what is found at a place is the first from there on, and where nothing is found there the first is a later one
   pub some_here : (o whole : Option X) (i n : ℕ) → i < n → o ≡ h i → is_some o ≡ true → first_from i n ≡ whole → o ≡ whole

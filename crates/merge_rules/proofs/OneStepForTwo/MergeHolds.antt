@@ -132,11 +132,8 @@ vertex_keeps g keeps k below =
     let (v, there) = there_is g.vertices k below in
     subst (KeepsVertex g.variables (length g.tables) (parameters_of g)) (sym (read_at g.vertices k no_vertex v there)) (every_item (KeepsVertex g.variables (length g.tables) (parameters_of g)) g.vertices k v keeps.vertices there)
 
--- the two vertices, and the edges and changes of the result
+-- the second vertex, and the edges and changes of the result
 module _ (g : EventGraph) (keeps : KeepsParts g) (first second : ℕ) (h : Mergeable g first second) where
-  abbrev a : EventVertex
-  a = vertex_at g first
-
   abbrev b : EventVertex
   b = vertex_at g second
 

@@ -122,9 +122,6 @@ module _ (g : EventGraph) (first second : ℕ) (none : first_failed (merge_condi
     abbrev after : List KeptPair
     after = pairs_merged first second b.edges pairs
 
-    old : ℕ → KeptPair
-    old k = slice_index_or pairs k no_pair
-
     counted-long : length counted ≡ length pairs
     counted-long = length_placed (with_fewer 1) second (edges_added b.edges pairs) ∙ added-long b.edges pairs
 
