@@ -20,16 +20,6 @@ pub record RenewedSoFar (g : EventGraph) (old now : List VertexFingerprint) (cha
   pub numbers : (v : ℕ) → number_in now v ≡ number_in old v
   pub kept : (x : ℕ) (p : VertexFingerprint) → slice_get now x ≡ Some p → IsFingerprintBut g old ((x < place) ⊎ (has_changed changed x ≡ false)) x p
 
-pub nothing-renewed : (g : EventGraph) (old : List VertexFingerprint) (changed : List Bool) → AreFingerprintsBut g old changed → RenewedSoFar g old old changed 0
-nothing-renewed g old changed prints = record {
-  long = refl;
-  numbers = λ v. refl;
-  kept = λ x p is. record { doing = (prints x p is).doing; barred = (prints x p is).barred; aims = λ hold. by x p is hold };
-} where
-  by : (x : ℕ) (p : VertexFingerprint) → slice_get old x ≡ Some p → (x < 0) ⊎ (has_changed changed x ≡ false) → p.aims ≡ targets_fingerprint_at g old x
-  by x p is (inl none) = absurd (omega (arith, none))
-  by x p is (inr stays) = (prints x p is).aims stays
-
 module _ (g : EventGraph) (old now : List VertexFingerprint) (changed : List Bool) (place : ℕ) (so_far : RenewedSoFar g old now changed place) where
   -- one that hasn't changed is as it shall be
   pub one-passed : has_changed changed place ≡ false → RenewedSoFar g old now changed (place + 1)

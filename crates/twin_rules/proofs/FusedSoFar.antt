@@ -12,9 +12,6 @@ pub record FusedSoFar (begun now : EventGraph) (short : Bool) : Type 0 where
   pub leads : (h : EventGraph) → Fused now h → Fused begun h
   pub within_limits : short ≡ true → has_short_text now ≡ true
 
-pub nothing-fused : (g : EventGraph) (short : Bool) → (short ≡ true → has_short_text g ≡ true) → FusedSoFar g g short
-nothing-fused g short within = record { leads = λ h fused. fused; within_limits = within }
-
 pub fused-short : (g : EventGraph) (keep gone : ℕ) → first_twins g ≡ Some (keep, gone) → has_short_text (fused g keep gone) ≡ true
 fused-short g keep gone found = le-leb (length (canonical (fused g keep gone))) TEXT_MAX (conditions_say g keep gone (first-are-twins g keep gone found)).short
 

@@ -1,9 +1,8 @@
 -- What was asked of pairs of vertices still holds when two vertices are fused, but for those that change.
-use Rattle.std.proofs.Common.{◌≡◌, ◌⊎◌, inl, inr, ℕ, ◌+◌, ◌-◌, ◌<◌, ◌≤◌, ◌==◌, nat_lt, nat_eq, Bool, true, false, not, ◌&&◌, ◌||◌, cond, [], ◌∷◌, map, take, length, Some, refl, sym, ◌∙◌, ap, ap₂, subst, arith}
+use Rattle.std.proofs.Common.{◌≡◌, ◌⊎◌, inl, inr, ℕ, ◌+◌, ◌-◌, ◌<◌, ◌≤◌, ◌==◌, nat_lt, nat_eq, Bool, true, false, not, ◌&&◌, ◌||◌, cond, [], ◌∷◌, map, take, length, refl, sym, ◌∙◌, ap, ap₂, subst, arith}
 use Rattle.std.proofs.lemmas.Bool.Decides.{nat_tests}
 use Rattle.std.proofs.lemmas.Bool.{false≢true, lt-ltb}
 use Rattle.std.specs.Prelude.{is_none}
-use Rattle.std.proofs.Math.Bool.{and-false}
 use Rattle.sig_base.proofs.Tests.{none-is_none, nat_lt-zero}
 use lib.Pointwise.{pointwise, bytes_decides}
 use Rattle.model_core.specs.EventGraph.{EventGraph}
@@ -18,7 +17,7 @@ use Rattle.model_core.proofs.Among.{either_true, first_true, second_true}
 use Rattle.model_core.proofs.EachOne.{every-fails, either_false}
 use Rattle.bound_laws.proofs.Soundness.NumberRows.{not_true}
 use Rattle.twin_rules.specs.declared.asked.PairSearch.{PairSearch}
-use Rattle.twin_rules.specs.Inner.ComparedPairs.{are_alike, is_before_pair, has_changed, NoneAlike, NoneAlikeBefore, place_before, some_leads}
+use Rattle.twin_rules.specs.Inner.ComparedPairs.{are_alike, is_before_pair, has_changed, NoneAlike, place_before, some_leads}
 use Rattle.twin_rules.proofs.AlikeVertices.{AreAlike, conditions-alike, changes_decided, edges_decided}
 use Rattle.twin_rules.proofs.StillApart.{NoneLeads, alike-before}
 
@@ -100,20 +99,6 @@ came_before gone keep last x y tested = either (either_true (nat_lt x (place_wit
   either (inr both) = second_true (nat_lt (place_before gone x) keep) _ (within (keep == gone) refl (and_first (x == place_without gone keep) _ both) (and_second (x == place_without gone keep) _ both))
 
 -- ---- what was asked
-
--- with no pair before it, nothing was looked at
-pub nothing-asked : (g : EventGraph) (a : PairSearch) → a.keep ≡ 0 → a.gone ≡ 0 → NoneAlike g a
-nothing-asked g a keep gone x y asked =
-    let before = and_first (is_before_pair a.keep a.gone x y) _ (and_first (is_before_pair a.keep a.gone x y && not (has_changed a.changed x)) _ asked) in
-    absurd (false≢true (sym (out x y) ∙ (ap₂ (λ k j. is_before_pair k j x y) (sym keep) (sym gone) ∙ before))) where
-      out : (x y : ℕ) → is_before_pair 0 0 x y ≡ false
-      out x y = ap₂ (λ p q. p || (x == 0) && q) (nat_lt-zero x) (nat_lt-zero y) ∙ and-false (x == 0)
-
--- all pairs before this one were
-pub asked-before : (g : EventGraph) (a : PairSearch) (keep gone : ℕ) → a.keep ≡ keep → a.gone ≡ gone → NoneAlikeBefore g (Some (keep, gone)) → NoneAlike g a
-asked-before g a keep gone is_keep is_gone none x y asked =
-    let before = and_first (is_before_pair a.keep a.gone x y) _ (and_first (is_before_pair a.keep a.gone x y && not (has_changed a.changed x)) _ asked) in
-    none x y (ap₂ (λ k j. is_before_pair k j x y) (sym is_keep) (sym is_gone) ∙ before)
 
 module _ (g : EventGraph) (keep gone : ℕ) (are : AreAlike g keep gone) (a b : PairSearch) (is_keep : b.keep ≡ place_without gone a.keep) (is_gone : b.gone ≡ cond (a.keep == gone) 0 (place_without gone a.gone)) (is_changed : (k : ℕ) → has_changed b.changed k ≡ (has_changed a.changed (place_before gone k) || some_leads g (place_before gone k) gone)) where
   abbrev before : ℕ → ℕ

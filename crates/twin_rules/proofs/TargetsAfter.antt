@@ -3,7 +3,7 @@ use Rattle.std.proofs.Common.{◌≡◌, ℕ, ◌+◌, ◌<◌, ◌==◌, nat_lt
 use Rattle.std.specs.List.{list_any}
 use Rattle.std.proofs.lemmas.Bool.Decides.{nat_tests}
 use Rattle.model_core.specs.EventGraph.{EventGraph, EventVertex, EventEdge}
-use Rattle.model_core.specs.Run.Step.{no_vertex, vertex_at}
+use Rattle.model_core.specs.Run.Step.{vertex_at}
 use Rattle.model_core.specs.Rules.Drop.{edge_renumbered}
 use Rattle.model_core.specs.Rules.Merge.{leads_to}
 use Rattle.model_core.specs.Rules.MarkedPlaces.{place_without}
@@ -12,19 +12,12 @@ use Rattle.model_core.proofs.EachOne.{either_false}
 use Rattle.model_core.proofs.PlacesChanged.{different}
 use Rattle.twin_rules.specs.declared.marks.Marks.{Marks}
 use Rattle.twin_rules.specs.Inner.ComparedPairs.{place_before, some_leads}
-use Rattle.twin_rules.specs.Inner.MarkedVertices.{has_mark, one_marks}
-use Rattle.twin_rules.specs.Inner.LedTo.{NoneLeadsTo, MarksTargets}
+use Rattle.twin_rules.specs.Inner.MarkedVertices.{has_mark}
+use Rattle.twin_rules.specs.Inner.LedTo.{MarksTargets}
 use Rattle.twin_rules.proofs.AlikeVertices.{AreAlike}
-use Rattle.twin_rules.proofs.StillApart.{none-at, placed, places_same}
+use Rattle.twin_rules.proofs.StillApart.{placed, places_same}
 use Rattle.twin_rules.proofs.PairsStillApart.{stays-apart, and-back}
 use Rattle.twin_rules.proofs.BarredAfter.{none-after, leads-after}
-
--- ---- at first
-
-pub none-leads : (g : EventGraph) (x : ℕ) → list_any (one_marks false x) g.vertices ≡ false → NoneLeadsTo g x
-none-leads g x none v = none-at (one_marks false x) g.vertices v no_vertex none refl
-
--- ---- after a fuse
 
 keep-elsewhere : (keep gone x : ℕ) → keep < gone → (keep == x) ≡ false → (keep == place_before gone x) ≡ false
 keep-elsewhere keep gone x first apart = by (nat_lt x gone) refl where

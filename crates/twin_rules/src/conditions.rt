@@ -1,6 +1,6 @@
 //! The conditions of fuse.
 
-ghost use Rattle.std.specs.Prelude.{◌≡◌, ◌<◌, ◌&&◌, true, None, take, length};
+ghost use Rattle.std.specs.Prelude.{◌≡◌, ◌<◌, true, None, take, length};
 ghost use Rattle.model_core.specs.Rules.Conditions.{first_failed};
 ghost use Rattle.model_core.specs.Rules.Fuse.{fused, has_short_text, fuse_conditions};
 ghost use Rattle.twin_rules.specs.Inner.ComparedPairs.{are_alike, alike_by};
