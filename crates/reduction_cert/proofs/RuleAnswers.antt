@@ -75,9 +75,6 @@ none_named g rules.Settle name number is = ap (λ o. unless_failed (option_map_o
 pub merge_named : (g : EventGraph) (name target : List ℕ) (first second : ℕ) → two_vertices_named g name target ≡ Some (first, second) → applied g (Merge name target) ≡ unless_failed (first_failed (merge_conditions g first second)) (merged g first second)
 merge_named g name target first second is = ap (λ o. unless_failed (option_map_or (λ (a, b). first_failed (merge_conditions g a b)) o (Some 1)) (option_map_or (λ (a, b). merged g a b) o g)) is
 
-pub answer-same : (a : Option EventGraph) (b h : Option EventGraph) (answer : Result Bool NoMemory) → a ≡ b → IfOk answer (λ made. b ≡ cond made h None) → IfOk answer (λ made. a ≡ cond made h None)
-answer-same a b h answer same fails = subst (λ o. IfOk answer (λ made. o ≡ cond made h None)) (sym same) fails
-
 -- what holds anyway holds of an answer
 pub holds_anyway : {P : Type 0} (answer : Result Bool NoMemory) → P → OnOk answer P
 holds_anyway (Ok made) p = p

@@ -1,7 +1,7 @@
 //! What is known of a model without vertices that are dropped: that it is single urgent, and how long its text is, where both were
 //! known of it with them; and, where one vertex alone is dropped, how long the lines of what the others do are.
 
-ghost use Rattle.std.specs.Prelude.{◌≡◌, None, length, map};
+ghost use Rattle.std.specs.Prelude.{◌≡◌, None};
 ghost use Rattle.std.specs.List.{list_any};
 ghost use Rattle.model_core.specs.EventGraph.{EventGraph};
 ghost use Rattle.model_core.specs.Run.Step.{vertex_at};
