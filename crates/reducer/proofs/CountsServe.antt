@@ -1,5 +1,5 @@
 -- Counts in which nothing is counted serve for the code's model as for its graph.
-use Rattle.std.proofs.Common.{◌≡◌, length, sym, subst}
+use Rattle.std.proofs.Common.{length, sym, subst}
 use Rattle.std.proofs.lemmas.List.{length-map}
 use Rattle.model_core.specs.declared.model.Model.{Model}
 use Rattle.model_core.specs.Code.Views.{graph_of, variable_of}

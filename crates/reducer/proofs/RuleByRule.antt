@@ -27,9 +27,6 @@ append_nothing : (xs : List RuleApplication) → xs ≡ xs ++ []
 append_nothing [] = refl
 append_nothing (x ∷ xs) = ap (λ xs. x ∷ xs) (append_nothing xs)
 
-pub led_begins : {g : EventGraph} {before : List RuleApplication} → IsValid g → NoEdgeRule g → Led g g before before
-led_begins {g} {before} valid none = record { later = []; noted = append_nothing before; first = refl; valid = valid; none = none }
-
 led_on : LeavesEdges → ((g h : EventGraph) (a : RuleApplication) → IsValid g → applied g a ≡ Some h → IsValid h) → (g h k : EventGraph) (before between after : List RuleApplication) (made : Bool) → made ≡ true → Led g h before between → MadeAndNoted (first_rule h) made h k between after → Led g k before after
 led_on leaves one_valid g h k before between after true e led (a, is, made, noted) = record {
   later = led.later ++ a ∷ [];
@@ -78,10 +75,6 @@ led_to_the_end g h k before between after false e led (no_rule, same, unnoted) =
 pub answer_of : {P Q : Bool → Type 0} (answer : Result Bool NoMemory) → ((made : Bool) → P made → Q made) → IfOk answer P → IfOk answer Q
 answer_of (Ok made) to holds = to made holds
 answer_of (Err e) to holds = tt
-
-pub both_on_ok : {T E P Q R : Type 0} (r : Result T E) → (P → Q → R) → OnOk r P → OnOk r Q → OnOk r R
-both_on_ok (Ok x) joined p q = joined p q
-both_on_ok (Err e) joined p q = tt
 
 -- what is known of any answer is so of this one
 pub of_answer : (P : Bool → Type 0) (answer : Result Bool NoMemory) (made : Bool) → answer ≡ Ok made → IfOk answer P → P made
