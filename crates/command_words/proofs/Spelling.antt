@@ -22,9 +22,6 @@ place_of : (text : List ℕ) → (list_any is_equals text ≡ nat_lt (position_o
 place_of [] = (refl, λ _. refl)
 place_of (c ∷ text) = go (is_equals c) (place_of text)
   where
-    place : Bool → ℕ
-    place b = cond (not b) (1 + position_or_len is_equals text) 0
-
     go : (b : Bool) → (list_any is_equals text ≡ nat_lt (position_or_len is_equals text) (length text)) × (list_any is_equals text ≡ false → position_or_len is_equals text ≡ length text)
         → ((b || list_any is_equals text) ≡ nat_lt (cond (not b) (1 + position_or_len is_equals text) 0) (length (c ∷ text))) × ((b || list_any is_equals text) ≡ false → cond (not b) (1 + position_or_len is_equals text) 0 ≡ length (c ∷ text))
     go true has_name = (grind (arith, nat_tests), λ e. cc)

@@ -1,6 +1,6 @@
 //! The job that the words of the command line ask for.
 
-ghost use Rattle.std.specs.Prelude.{◌≡◌, [], nat_eq, map, codes, IfOk, Some, None};
+ghost use Rattle.std.specs.Prelude.{◌≡◌, nat_eq, map, codes, IfOk, Some, None};
 ghost use Rattle.std.specs.List.{list_any};
 ghost use Rattle.std.specs.Result.{IsErrOf};
 ghost use lib.Pointwise.{pointwise};
