@@ -2,7 +2,7 @@
 
 ghost use Rattle.std.specs.Prelude.{◌≡◌, ◌++◌, IfOk, decimal};
 
-use sig_base::{Name, NoMemory, put_bytes, put_number};
+use sig_base::{Name, NoMemory, put_number};
 use std::alloc::Global;
 
 /// The name of these letters.
