@@ -1,14 +1,13 @@
 -- What the error of a step of reading becomes is a complaint only where the step complains, of the same at the same byte.
 use Rattle.std.proofs.Common.{◌≡◌, ℕ, refl, subst}
 use Rattle.model_core.specs.declared.static_kind.StaticKind.{StaticKind}
-use Rattle.model_lex.specs.declared.lex_error.LexError.{LexError}
 use Rattle.model_lex.specs.declared.parse_error.ParseError.{ParseError}
 use Rattle.sig_types.specs.declared.error.StaticError.{StaticError}
 use Rattle.sig_types.specs.declared.error.StaticError.TheVariants as static
 use Rattle.answer_delivery.specs.declared.complaint.Complaint.{Complaint}
 use Rattle.answer_delivery.specs.declared.complaint.Complaint.TheVariants as complaints
 use Rattle.job_answers.specs.declared.reading_error.ReadingError.TheVariants.{At}
-use Rattle.job_answers.specs.Inner.Refusals.{lexing_complaint, parsing_complaint, static_complaint}
+use Rattle.job_answers.specs.Inner.Refusals.{parsing_complaint, static_complaint}
 
 module _ (IsSo : Complaint → ℕ → Type 0) where
   pub same_complaint : (c d : Complaint) (i j : ℕ) → At c i ≡ At d j → IsSo c i → IsSo d j
@@ -16,11 +15,6 @@ module _ (IsSo : Complaint → ℕ → Type 0) where
       let what : c ≡ d = cc in
       let at : i ≡ j = cc in
       subst (λ x. IsSo x j) what (subst (IsSo c) at h)
-
-  pub of_uncut : (error : LexError) → ((i : ℕ) → error ≡ LexError.BadByte i → IsSo complaints.BadByte i)
-      → (what : Complaint) (at : ℕ) → lexing_complaint error ≡ At what at → IsSo what at
-  of_uncut (LexError.BadByte i) complains what at e = same_complaint complaints.BadByte what i at e (complains i refl)
-  of_uncut LexError.NoMemory complains what at e = absurd cc
 
   pub parsing_complaint_is : (error : ParseError) → ((i : ℕ) → error ≡ ParseError.Unexpected i → IsSo complaints.Unexpected i)
       → ((i : ℕ) → error ≡ ParseError.TooDeep i → IsSo complaints.TooDeep i)

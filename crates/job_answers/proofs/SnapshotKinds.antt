@@ -38,9 +38,6 @@ abbrev pub list_kinds : List ℤ → List LexemeKind
 list_kinds [] = []
 list_kinds (x ∷ xs) = signed_kinds x ++ others_kinds xs
 
-abbrev pub word_kind : List ℕ → LexemeKind
-word_kind bytes = NameOf bytes
-
 abbrev pub stream_kinds : ℕ → ℕ → List LexemeKind
 stream_kinds stream zero = []
 stream_kinds stream (suc n) = NameOf (codes "stream") ∷ number stream ∷ number (suc n) ∷ []

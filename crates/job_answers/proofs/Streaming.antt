@@ -1,6 +1,6 @@
 -- From what was written, and how it was finished, to the answer that was delivered; for answers that are written as they
 -- come, and for those that are written at once.
-use Rattle.std.proofs.Common.{◌≡◌, ◌≢◌, ◌⊎◌, inl, inr, ℕ, ◌<◌, false, List, take, length, Option, Some, None, Result, Ok, Err, sym, ◌∙◌, subst, arith}
+use Rattle.std.proofs.Common.{◌≡◌, ◌≢◌, ◌⊎◌, inl, inr, ℕ, ◌<◌, false, List, length, Option, Some, None, Result, Ok, Err, sym, ◌∙◌, subst, arith}
 use Rattle.std.specs.Prelude.{IfOk, MatchResult}
 use Rattle.std.proofs.Math.Seq.{take-length}
 use Rattle.sig_base.specs.declared.no_memory.NoMemory.{NoMemory}
@@ -11,16 +11,7 @@ use Rattle.sig_base.proofs.SinkLemmas.{GrowsBy-nothing}
 use Rattle.answer_delivery.specs.declared.delivering.DeliveryOutcome.TheVariants as said
 use Rattle.answer_delivery.specs.declared.status.Failure.TheVariants as failures
 use Rattle.job_answers.specs.Inner.WritingSteps.{StreamsBytes}
-use Rattle.job_answers.proofs.AnswerTerms.{Answer, Given, End, Failure, DeliveryOutcome, Delivers, DeliversSome, GrowsByFront, Written, Closed}
-
--- ---- a piece that was written at once
-
--- a write that failed left some byte unwritten
-pub some_unwritten : (bytes : List ℕ) (n : ℕ) → n < length bytes → 0 < length bytes
-some_unwritten bytes n front = omega (arith, front)
-
-pub front_of : (o p : Outlet) (bytes : List ℕ) (n : ℕ) → n < length bytes → GrowsBy o.written p.written (take n bytes) → GrowsByFront o p bytes
-front_of o p bytes n front h = (n, omega (arith, front), h)
+use Rattle.job_answers.proofs.AnswerTerms.{Answer, Given, End, Failure, DeliveryOutcome, Delivers, DeliversSome, GrowsByFront, Closed}
 
 -- ---- the bytes, and finishing after them
 
@@ -51,17 +42,7 @@ pub closed_in_memory : (end : End) (m p : Outlet) (r : Result DeliveryOutcome Fa
 closed_in_memory end m p r h = λ short. subst (λ (x : Result DeliveryOutcome Failure). Closed end x m p) short h
 
 module _ {K : Type 0} (seen : K → Outlet) (o p : K) (end : End) (bytes : List ℕ) where
-  -- the bytes could not be written at once
-  pub unwritten : {A : Type 0} (f : Failure) (r : Result A Failure) → r ≡ Err f → Written bytes r (seen o) (seen p) → Delivers seen (Given end bytes) (Err f) o p
-  unwritten {A} f r is h = broken f (subst (λ (x : Result A Failure). Written bytes x (seen o) (seen p)) is h)
-    where
-      broken : (f : Failure) → Written {A = A} bytes (Err f) (seen o) (seen p) → Delivers seen (Given end bytes) (Err f) o p
-      broken failures.WriteFault h = record { grown = h.0; unsettled = λ some. h.1; failed = h.2 }
-      broken failures.NoMemory h = absurd h
-      broken failures.Usage h = absurd h
-      broken failures.ReadFault h = absurd h
-
-  -- nor as they came
+  -- the bytes could not be written as they came
   pub stream_fails : (Short : Type 0) (f : Failure) → StreamsBytes seen end bytes Short (Err f) o p → Delivers seen (Given end bytes) (Err f) o p
   stream_fails Short failures.WriteFault h = record { grown = h.0; unsettled = λ some. h.1; failed = h.2 }
   stream_fails Short failures.NoMemory h = record { grown = front h.0; steady = h.1 }

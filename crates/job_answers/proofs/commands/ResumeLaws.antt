@@ -1,5 +1,5 @@
 -- From a saved run that was resumed to the history that is delivered, and the laws of the answer of `resume`.
-use Rattle.std.proofs.Common.{◌≡◌, inl, inr, ℕ, ◌+◌, ◌≤◌, List, length, Some, None, Result, Ok, refl, sym, ap, ◌∙◌, subst}
+use Rattle.std.proofs.Common.{◌≡◌, inr, ℕ, ◌+◌, ◌≤◌, length, None, Result, refl, sym, ap, ◌∙◌, subst}
 use Rattle.std.specs.Prelude.{max}
 use Rattle.command_words.specs.declared.reading.Reading.TheVariants.{Saved as OfSaved}
 use Rattle.command_words.specs.declared.reading.SavedJob.TheVariants.{Resume}
@@ -9,28 +9,17 @@ use Rattle.model_core.specs.declared.model.Model.{Model}
 use Rattle.run_control.specs.Running.{Running}
 use Rattle.run_snapshot.specs.ResumedRun.{ResumedRun}
 use Rattle.watch_trace.specs.Tracing.{Tracing, moment_of}
-use Rattle.answer_delivery.specs.declared.delivering.DeliveryOutcome.TheVariants as said
-use Rattle.answer_delivery.specs.declared.status.Refusal.TheVariants as refusals
 use Rattle.job_answers.specs.AnswerLaws.{KeepsAnswerLaws}
 use Rattle.job_answers.specs.RunAnswer.{answer_of_look, refused_or}
 use Rattle.job_answers.specs.ResumeAnswer.{resume_refusal, resume_answer, ResumedExceedsRoom}
 use Rattle.job_answers.specs.Inner.RunSteps.{DeliversHistory}
 use Rattle.job_answers.proofs.ModelTerms.{EventGraph, graph_of, Moment, SavedRun, saved_moment, history_from}
-use Rattle.job_answers.proofs.AnswerTerms.{Answer, Refused, Failure, DeliveryOutcome, status_of_answer, DeliversSome}
+use Rattle.job_answers.proofs.AnswerTerms.{Answer, Failure, DeliveryOutcome, status_of_answer, DeliversSome}
 use Rattle.job_answers.proofs.HistoryLaws.{look_has_bytes, look_unrefused}
 
 module _ {K : Type 0} (sight : K → Outlet) (g : EventGraph) (s : SavedRun) (o : ResumeOptions) where
   abbrev pub DeliversResumed : Result DeliveryOutcome Failure → K → K → Type 0
   DeliversResumed r p q = DeliversSome sight (λ a. a ≡ resume_answer g s o.until o.events) (ResumedExceedsRoom g s o) r p q
-
-  -- it can't go on as it is asked to
-  pub resume_refused : (line : List ℕ) (p : K) → Some line ≡ resume_refusal s o.until o.events → DeliversResumed (Ok (said.Refused refusals.BadStart line)) p p
-  resume_refused line p is = inl (record {
-    answer = Refused refusals.BadStart line;
-    holds = ap (λ x. refused_or x (answer_of_look g o.until o.events (history_from g s o.until o.events))) is;
-    delivers = (refl, refl, refl);
-    short = λ e. absurd cc;
-  })
 
 -- The history of a run that was resumed is what `resume` answers.
 pub resume_delivered : {K : Type 0} (sight : K → Outlet) (m : Model) (s : SavedRun) (o : ResumeOptions) (r : Running) (t : Tracing) (result : Result DeliveryOutcome Failure) (p q : K) → resume_refusal s o.until o.events ≡ None → ResumedRun m s o.room r t

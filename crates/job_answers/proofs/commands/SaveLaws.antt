@@ -1,8 +1,8 @@
 -- From a run that was followed to what is saved of it, and the laws of the answer of `save`.
-use Rattle.std.proofs.Common.{◌≡◌, inr, ℕ, ◌++◌, ◌<◌, ◌≤◌, ◌^◌, ℤ, Bool, true, false, cond, List, length, Option, Some, None, refl, sym, ap, ap₂, ◌∙◌, subst, arith}
+use Rattle.std.proofs.Common.{◌≡◌, inr, ℕ, ◌++◌, ◌<◌, ℤ, Bool, true, false, cond, List, length, Option, Some, None, refl, sym, ap, ap₂, ◌∙◌, subst, arith}
 use Rattle.std.specs.Prelude.{IsTrue, nat_le}
 use Rattle.std.proofs.lemmas.Option.{same_Some}
-use Rattle.sig_base.specs.declared.limits.TheConstants.{DOCUMENT_MAX, STOP_MAX, EVENTS_MAX}
+use Rattle.sig_base.specs.declared.limits.TheConstants.{DOCUMENT_MAX}
 use Rattle.command_words.specs.declared.reading.ModelJob.TheVariants.{Save}
 use Rattle.command_words.specs.declared.reading.Reading.TheVariants.{Model as OfModel}
 use Rattle.command_words.specs.declared.save_options.SaveOptions.{SaveOptions}
@@ -13,7 +13,6 @@ use Rattle.model_core.specs.Saved.Resuming.{Resumes}
 use Rattle.model_core.specs.Saved.GoingOn.{GoesOn}
 use Rattle.run_control.specs.Beginning.{BegunRun}
 use Rattle.run_control.specs.Running.{Running}
-use Rattle.watch_trace.specs.declared.outcome.Outcome.{Outcome}
 use Rattle.watch_trace.specs.declared.outcome.Outcome.TheVariants as outcomes
 use Rattle.watch_trace.specs.Tracing.{Tracing, moment_of}
 use Rattle.watch_trace.specs.Following.{outcome_of, run_look, Completes, StepsLead}
@@ -40,9 +39,6 @@ budget-going (Ended t) e = absurd cc
 budget-going Stopped e = absurd cc
 budget-going (Faulted t kind) e = absurd cc
 
-not_going : (s : RunStatus) (outcome : Outcome) → outcome ≡ outcome_of s → (outcome ≡ outcomes.Budget → ⊥) → s ≡ Going → ⊥
-not_going s outcome is other going = other (is ∙ ap outcome_of going)
-
 module _ (m : Model) (until seed events room : ℕ) (starts : List ℤ) (r : Running) (t : Tracing) (begun : BegunRun m seed starts room r) (noted : t.noted ≡ None) where
   -- the look from the moment of the run is that at the run
   seen_is : run_look until events r t ≡ look (graph_of m) seed starts until events
@@ -67,16 +63,7 @@ module _ (m : Model) (until seed events room : ℕ) (starts : List ℤ) (r : Run
       sym (ap (reached_from g r.seed until h.steps) here ∙ ap₂ (λ n k. reach n k h.steps) begun.model begun.seeded ∙ ap (reach m seed) all) ∙ h.lead in
       (ap (λ (l : Look). l.standing) (sym seen_is) ∙ budget-going (run_look until events r t).standing completes.0, (h.here, leads, is ∙ ap₂ (saved seed) turns there))
 
-  -- it doesn't go on
-  pub is_finished : (outcome : Outcome) → outcome ≡ outcome_of (run_look until events r t).standing → (outcome ≡ outcomes.Budget → ⊥) → SavedOrFinished (graph_of m) until seed events starts None
-  is_finished outcome completes other = λ going. not_going (run_look until events r t).standing outcome completes other (ap (λ (l : Look). l.standing) seen_is ∙ going)
-
 -- ---- the answer
-
--- what holds of a run that goes on
-abbrev pub RunsResume : Type 0
-RunsResume = (g : EventGraph) (seed : ℕ) (starts : List ℤ) (until n : ℕ) → seed < 2 ^ 64 → IsTrue (allowed g starts) → until ≤ STOP_MAX → n ≤ EVENTS_MAX → (look g seed starts until n).standing ≡ Going
-    → (m : Moment) × GoesOn g seed starts until n m × Resumes g seed starts until n m
 
 module _ (g : EventGraph) (o : SaveOptions) where
   -- what is saved of a run that goes on is good

@@ -1,7 +1,7 @@
 //! `resume`: the history of a saved run from where it was saved, written as it happens, or why it can't go on. And the law
 //! that it goes on from what `save` would write.
 
-ghost use Rattle.std.specs.Prelude.{◌≡◌, ◌+◌, ◌<◌, ◌≤◌, ◌^◌, ℕ, List, [], ◌++◌, length, IfOk, None, Ok};
+ghost use Rattle.std.specs.Prelude.{◌≡◌, ◌<◌, ◌≤◌, ◌^◌, ℕ, List, [], ◌++◌, length, IfOk, None, Ok};
 ghost use Rattle.sig_base.specs.declared.limits.TheConstants.{STOP_MAX};
 ghost use Rattle.model_core.specs.EventGraph.{EventGraph};
 ghost use Rattle.model_core.specs.Saved.GoodSnapshots.{bad_at, saved_run};
