@@ -59,9 +59,6 @@ fronts : (xs ys s t : List ℕ) → xs ++ s ≡ ys ++ t → ((r : List ℕ) × (
 fronts [] ys s t e = inl (ys, refl, e)
 fronts (x ∷ xs) [] s t e = inr (x ∷ xs, refl, sym e)
 fronts (x ∷ xs) (y ∷ ys) s t e = by (fronts xs ys s t later) where
-  here : x ≡ y
-  here = cc
-
   later : xs ++ s ≡ ys ++ t
   later = cc
 
