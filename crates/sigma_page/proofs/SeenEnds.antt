@@ -10,7 +10,7 @@ use Rattle.answer_delivery.specs.declared.status.End.{End}
 use Rattle.answer_delivery.specs.declared.status.End.TheVariants as ends
 use Rattle.answer_delivery.specs.declared.status.Refusal.{Refusal}
 use Rattle.answer_delivery.specs.declared.status.Refusal.TheVariants as refusals
-use Rattle.sigma_top.specs.StatusTable.{IsReadToEnd, IsReadThrough, IsReadInPart, WritesAnswer, Refuses, FailsToRead, FailsToWrite, WritesFront, LacksMemory, ForJob, EndsWithAnswer, EndsWithRefusal, Ends}
+use Rattle.sigma_top.specs.StatusTable.{IsReadToEnd, IsReadThrough, IsReadInPart, WritesAnswer, Refuses, FailsToRead, FailsToWrite, WritesAnswerFront, LacksMemory, ForJob, EndsWithAnswer, EndsWithRefusal, Ends}
 
 abbrev inlet : Inlet → Inlet
 inlet x = x
@@ -49,7 +49,7 @@ module _ {S K : Type 0} (source : S → Inlet) (sink : K → Outlet) where
     read_failed : FailsToRead source sink reading i j o p → FailsToRead inlet outlet reading (source i) (source j) (sink o) (sink p)
     read_failed h = record { reads_text = h.reads_text; input_read = read_in_part (limit_of reading) i j h.input_read; input_failed = h.input_failed; output_untouched = ap sink h.output_untouched }
 
-    abbrev front_written : WritesFront source sink reading i o p → WritesFront inlet outlet reading (source i) (sink o) (sink p)
+    abbrev front_written : WritesAnswerFront source sink reading i o p → WritesAnswerFront inlet outlet reading (source i) (sink o) (sink p)
     front_written h = record { end = h.end; bytes = h.bytes; answer = h.answer; output_grown = h.output_grown }
 
     write_failed : FailsToWrite source sink reading i j o p → FailsToWrite inlet outlet reading (source i) (source j) (sink o) (sink p)

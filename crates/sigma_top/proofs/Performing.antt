@@ -21,7 +21,7 @@ use Rattle.job_answers.specs.Answers.{Responds, MayStopShort, HasNothingToWrite,
 use Rattle.answer_delivery.specs.Delivery.{Delivers, DeliversSome}
 use Rattle.sigma_top.specs.declared.text_taking.TakenText.{TakenText}
 use Rattle.sigma_top.specs.declared.text_taking.TakenText.TheVariants as taken
-use Rattle.sigma_top.specs.StatusTable.{text_of, IsReadThrough, RepliesToInput, WritesFront}
+use Rattle.sigma_top.specs.StatusTable.{text_of, IsReadThrough, RepliesToInput, WritesAnswerFront}
 use Rattle.sigma_top.specs.Inner.CallSteps.{TakesText, AnswersInput}
 use Rattle.sigma_top.proofs.InputRead.{read_through, read_in_part}
 
@@ -124,7 +124,7 @@ module _ {S K : Type 0} (source : S → Inlet) (sink : K → Outlet) (reading : 
         output_steady = k.steady;
       }
         where
-          begun : (p ≡ o) ⊎ MayStopShort reading text → (p ≡ o) ⊎ ((front : WritesFront source sink reading i o p) × MayStopShort reading front.answer.text)
+          begun : (p ≡ o) ⊎ MayStopShort reading text → (p ≡ o) ⊎ ((front : WritesAnswerFront source sink reading i o p) × MayStopShort reading front.answer.text)
           begun (inl same) = inl same
           begun (inr may) = inr (record { end = end; bytes = bytes; answer = record { text = text; of_input = h.0; answers = inr (h.1, x) }; output_grown = k.grown }, may)
       in_memory (Given end bytes) (Err failures.Usage) x k short = absurd k

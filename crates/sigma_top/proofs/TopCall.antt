@@ -47,7 +47,7 @@ use Rattle.job_answers.specs.SavedReading.{ReadsSaved}
 use Rattle.answer_delivery.specs.Statuses.{status_of_answer, bytes_of_answer, status_of_end, status_of_refusal, failure_line}
 use Rattle.answer_delivery.specs.FailureStatus.{status_of_failure}
 use Rattle.sigma_top.specs.Promises.{PrintsModel, KeepsPromises}
-use Rattle.sigma_top.specs.StatusTable.{text_of, ReportsLine, WritesAnswer, Refuses, RepliesToInput, WritesFront, LacksMemory, ForJob, Ends}
+use Rattle.sigma_top.specs.StatusTable.{text_of, ReportsLine, WritesAnswer, Refuses, RepliesToInput, WritesAnswerFront, LacksMemory, ForJob, Ends}
 use Rattle.sigma_top.specs.Inner.CallSteps.{AnswersInput, AnswersWords}
 
 -- ---- what `print`, `reduce`, `fuse` and `narrow` give, and what `certify` finds sound
@@ -84,7 +84,7 @@ module _ {S K : Type 0} (source : S → Inlet) (sink : K → Outlet) (i j : S) (
   untouched : (reading : Reading) → p ≡ o → IsUntouched reading
   untouched reading same = in_any_case (text_of (limit_of reading) (source i).left) (λ text. (MayStopShort reading text → ⊥) → p ≡ o) (λ text never. same)
 
-  front_unless : (reading : Reading) → (p ≡ o) ⊎ ((front : WritesFront source sink reading i o p) × MayStopShort reading front.answer.text) → IsUntouched reading
+  front_unless : (reading : Reading) → (p ≡ o) ⊎ ((front : WritesAnswerFront source sink reading i o p) × MayStopShort reading front.answer.text) → IsUntouched reading
   front_unless reading (inl same) = untouched reading same
   front_unless reading (inr (front, short)) =
       of_input_text (text_of (limit_of reading) (source i).left) front.answer.text (λ text. (MayStopShort reading text → ⊥) → p ≡ o) front.answer.of_input (λ never. absurd (never short))

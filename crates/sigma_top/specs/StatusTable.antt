@@ -78,7 +78,7 @@ module _ {S K : Type 0} (source : S → Inlet) (sink : K → Outlet) (reading : 
     pub output_untouched : p ≡ o
 
   -- a front of the answer was written
-  pub record WritesFront (i : S) (o p : K) : Type 0 where
+  pub record WritesAnswerFront (i : S) (o p : K) : Type 0 where
     pub end : End
     pub bytes : List ℕ
     pub answer : RepliesToInput reading (source i) (Given end bytes)
@@ -87,7 +87,7 @@ module _ {S K : Type 0} (source : S → Inlet) (sink : K → Outlet) (reading : 
   -- A write failed, or finishing did. The input was read, and a front of its answer was written; the output isn't finished,
   -- unless there was nothing to write.
   pub record FailsToWrite (i j : S) (o p : K) : Type 0 where
-    pub front : WritesFront i o p
+    pub front : WritesAnswerFront i o p
     pub input_read : IsReadToEnd source (limit_of reading) i j
     pub input_steady : (source j).faults ≡ (source i).faults
     pub output_unsettled : HasNothingToWrite reading front.bytes ⊎ ((sink p).settled ≡ false)
@@ -97,7 +97,7 @@ module _ {S K : Type 0} (source : S → Inlet) (sink : K → Outlet) (reading : 
   pub record LacksMemory (i j : S) (o p : K) : Type 0 where
     pub input_read : IsReadInPart source (limit_of reading) i j
     pub input_steady : (source j).faults ≡ (source i).faults
-    pub output_grown : (p ≡ o) ⊎ ((front : WritesFront i o p) × MayStopShort reading front.answer.text)
+    pub output_grown : (p ≡ o) ⊎ ((front : WritesAnswerFront i o p) × MayStopShort reading front.answer.text)
     pub output_steady : (sink p).faults ≡ (sink o).faults
 
 -- ---- the table of statuses
