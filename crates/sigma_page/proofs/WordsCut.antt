@@ -1,7 +1,7 @@
 -- The first word of bytes ends at their first 0, and the words after it are those of the bytes past that.
-use Rattle.std.proofs.Common.{◌≡◌, ◌⊎◌, inl, inr, ℕ, zero, suc, ◌+◌, ◌<◌, List, [], ◌∷◌, ◌++◌, map, length, take, drop, refl, sym, ap, subst, ◌∙◌, arith, true, All, IsUtf8}
+use Rattle.std.proofs.Common.{◌≡◌, ◌⊎◌, inl, inr, ℕ, zero, suc, ◌+◌, ◌<◌, List, [], ◌∷◌, ◌++◌, length, take, drop, refl, sym, ap, subst, ◌∙◌, arith, true, All, IsUtf8}
 use Rattle.std.proofs.lemmas.Bool.{eqb-true}
-use Rattle.std.proofs.lemmas.List.{append-nil, append_assoc, map-append, length-append, take_all, drop_all, get_or-append-add}
+use Rattle.std.proofs.lemmas.List.{append-nil, length-append, take_all, drop_all, get_or-append-add}
 use Rattle.std.specs.Prelude.{slice_index}
 use Rattle.memchr.specs.Find.{is_byte}
 use Rattle.answer_delivery.specs.declared.status.Failure.{Failure}
@@ -37,14 +37,6 @@ unfolding ended_words
 no_word_past bytes n = ap ended_words (ap (take n) (drop_all (length bytes) bytes (omega arith)) ∙ take_all n [] (omega arith))
 
 -- ---- words that are taken one by one
-
--- one word more
-pub word_pushed : {A : Type 0} (bytes_of : A → List ℕ) (words more : List A) (word : A) (first : List ℕ) (left others all : List (List ℕ)) → map bytes_of words ++ left ≡ all
-    → left ≡ first ∷ others → bytes_of word ≡ first → more ≡ words ++ word ∷ [] → map bytes_of more ++ others ≡ all
-word_pushed bytes_of words more word first left others all taken cut is pushed =
-    ap (λ ws. map bytes_of ws ++ others) pushed ∙ ap (λ ws. ws ++ others) (map-append bytes_of words (word ∷ []))
-    ∙ append_assoc (map bytes_of words) (bytes_of word ∷ []) others ∙ ap (λ w. map bytes_of words ++ w ∷ others) is
-    ∙ ap (λ ws. map bytes_of words ++ ws) (sym cut) ∙ taken
 
 -- all words
 pub words_done : (words all : List (List ℕ)) (rest : List ℕ) → rest ≡ [] → words ++ ended_words rest ≡ all → words ≡ all

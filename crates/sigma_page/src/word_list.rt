@@ -1,6 +1,6 @@
 //! The words of a call, from bytes.
 
-ghost use Rattle.std.specs.Prelude.{◌≡◌, ◌<◌, ◌∷◌, ◌⊎◌, List, length, map, vec_items, All, IsUtf8, IfOk, IfErr};
+ghost use Rattle.std.specs.Prelude.{◌≡◌, ◌<◌, ◌∷◌, ◌⊎◌, length, map, vec_items, All, IsUtf8, IfOk, IfErr};
 ghost use Rattle.std.specs.String.{string_bytes};
 ghost use Rattle.answer_delivery.specs.declared.status.Failure.TheVariants as failures;
 ghost use Rattle.sigma_page.specs.PageWords.{ended_words};
