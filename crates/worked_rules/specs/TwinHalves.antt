@@ -145,9 +145,6 @@ two_pairs = twinned [] (event (codes "RUN") [] [] ∷ counts_n (codes "A") ∷ c
 abbrev pub three_alike : EventGraph
 three_alike = twinned [] (counts_n (codes "RUN") ∷ counts_n (codes "A") ∷ counts_n (codes "B") ∷ [])
 
-abbrev pub two_alike : EventGraph
-two_alike = twinned [] (counts_n (codes "RUN") ∷ counts_n (codes "B") ∷ [])
-
 abbrev pub alone : EventGraph
 alone = twinned [] (counts_n (codes "RUN") ∷ [])
 

@@ -8,7 +8,7 @@ ghost use Rattle.model_core.specs.Rules.Prune.{first_prune, prune_conditions, pr
 ghost use Rattle.model_core.specs.Rules.Settle.{settle_conditions, settled, first_settle};
 ghost use Rattle.model_core.specs.Rules.Reached.{reached_marks, unreached};
 ghost use Rattle.model_core.specs.Rules.Drop.{drop_conditions, dropped};
-ghost use Rattle.worked_rules.specs.EdgeModels.{at_several_places, one_pruned, one_settled, led, led_alone, over_x, literally};
+ghost use Rattle.worked_rules.specs.EdgeModels.{at_several_places, one_pruned, one_settled, led, led_alone, over_x};
 
 /// The first edge that may be pruned, and the first that may be settled, by vertex and then by
 /// edge.

@@ -6,7 +6,7 @@ ghost use Rattle.model_core.specs.EventGraph.{Truth, Scalar, Set, Draw, Uniform,
 ghost use Rattle.model_core.specs.Rules.Conditions.{first_failed};
 ghost use Rattle.model_core.specs.Rules.Needed.{unneeded};
 ghost use Rattle.model_core.specs.Rules.Slice.{slice_conditions, sliced_change, sliced_edge, sliced};
-ghost use Rattle.worked_runs.specs.Building.{whole, at_variable, at_cell, set, draw, only_if, positive, plain_edge, schedule, one_over_zero, x_watched};
+ghost use Rattle.worked_runs.specs.Building.{whole, at_variable, at_cell, draw, only_if, positive, plain_edge, schedule, one_over_zero, x_watched};
 ghost use Rattle.worked_rules.specs.NeedHalves.{four_clipped, taken_over, drawn_of, giving_edge, one_strict, before_slice, after_slice};
 
 /// What is needed at once, by one of U, V, W and X each time.

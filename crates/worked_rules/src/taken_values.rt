@@ -1,12 +1,11 @@
 //! What variables take under given ranges, and what they keep of it.
 #![tactic(auto, unfolding(model_core::specs::Rules::BoundsTable::exact_bounds, model_core::specs::Rules::BoundsTable::least_of, model_core::specs::Rules::BoundsTable::greatest_of))]
 
-ghost use Rattle.std.specs.Prelude.{◌≡◌, ◌∷◌, [], pos, neg_ℤ, true, map, take, Some, None};
+ghost use Rattle.std.specs.Prelude.{◌≡◌, ◌∷◌, [], pos, neg_ℤ, map, Some, None};
 ghost use Rattle.model_core.specs.EventGraph.{Scalar, Binary, Below, Above, ByTable, Drawn, Schedule};
 ghost use Rattle.model_core.specs.Ranges.Incoming.{assigned, into_edge, incoming, kept_range};
 ghost use Rattle.worked_runs.specs.Building.{clipped, array, whole, plain_edge, schedule, only_if};
 ghost use Rattle.worked_runs.specs.BoundedModel.{bounded_by};
-ghost use Rattle.worked_runs.specs.NarrowModel.{range};
 ghost use Rattle.worked_rules.specs.RangedModels.{span, five_kinds, fed, n_and_m, takes_in, bounds_between};
 
 /// All that is set, drawn and carried into variables.
