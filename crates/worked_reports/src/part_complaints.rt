@@ -1,6 +1,6 @@
 //! Documents and saved runs: the complaint about their last part, their answers, and which jobs may stop short.
 
-ghost use Rattle.std.specs.Prelude.{◌≡◌, ℕ, List};
+ghost use Rattle.std.specs.Prelude.{ℕ, List};
 ghost use Rattle.command_words.specs.declared.reading.DocumentJob.TheVariants as documents;
 ghost use Rattle.command_words.specs.declared.reading.ModelJob.TheVariants as models;
 ghost use Rattle.command_words.specs.declared.reading.SavedJob.TheVariants as saved_jobs;

@@ -1,7 +1,7 @@
 //! What `save` and `resume` answer, and what `run` does: starting values, ends, and the order of
 //! what is refused.
 
-ghost use Rattle.std.specs.Prelude.{◌≡◌, ◌+◌, ◌++◌, ℕ, pos, neg_ℤ, List, [], ◌∷◌, Some, None, codes, length};
+ghost use Rattle.std.specs.Prelude.{◌≡◌, ◌++◌, ℕ, pos, neg_ℤ, List, [], ◌∷◌, Some, None, codes, length};
 ghost use Rattle.sig_base.specs.declared.fault.FaultKind.TheVariants as faults;
 ghost use Rattle.model_core.specs.Run.Machine.{Ended, Stopped, Faulted, Going};
 ghost use Rattle.answer_delivery.specs.declared.answer.Answer.TheVariants.{Given, Refused};

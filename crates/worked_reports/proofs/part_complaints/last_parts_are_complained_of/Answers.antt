@@ -1,6 +1,5 @@
-use Rattle.std.proofs.Common.{◌≡◌, ℕ, List, refl}
+use Rattle.std.proofs.Common.{ℕ, List, refl}
 use Rattle.model_core.specs.Text.Lexing.{Lexeme}
-use Rattle.answer_delivery.specs.declared.complaint.Complaint.{Complaint}
 use Rattle.answer_delivery.specs.declared.complaint.Complaint.TheVariants as complaints
 use Rattle.job_answers.specs.DocumentComplaints.{IsGrammarComplaint, in_first, in_second, in_certificate}
 use Rattle.job_answers.specs.SavedComplaints.{IsSavedGrammarComplaint, in_model, in_snapshot}
