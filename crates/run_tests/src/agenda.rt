@@ -5,7 +5,6 @@ ghost use Rattle.std.specs.Prelude.{◌≡◌, ◌<◌};
 use event_heap::HeapPending;
 use event_list::{Entry, First, Pending, PlainPending};
 use sig_base::{Carried, NoMemory, Steps};
-use std::alloc::Global;
 use std::marker::Brand;
 use std::mem::forget;
 use std::sync::ledger::{Blank, Ledger};
