@@ -4,7 +4,7 @@ use Rattle.std.specs.Option.{option_map}
 use Rattle.model_core.specs.declared.model.Kind.TheVariants as kinds
 use Rattle.model_core.specs.Text.Written as written
 use Rattle.model_core.specs.Text.Written.{WrittenSigned, WrittenKind, WrittenLiteral}
-use Rattle.model_core.specs.Text.Numbering.{initial, signed}
+use Rattle.model_core.specs.Text.Numbering.{◌>>=◌, initial, signed}
 use Rattle.model_core.specs.Static.FaultOrder.{StaticFault}
 use Rattle.model_core.specs.Static.RuleTable.{kind_mismatch, literal_too_large, initial_outside}
 use Rattle.sig_types.specs.declared.variables.Range.{Range}
