@@ -14,8 +14,8 @@ use one_pass::{OnePassError, read_model};
 use sig_base::TEXT_MAX;
 use std::alloc::Global;
 
-/// The model that the text reads as. It is read in one pass, which also finds the first broken rule. Any other text is read
-/// again, for what is wrong with it.
+/// The model that the text reads as. It is read in one pass, which also finds what is wrong with it. Where that pass gives up,
+/// the text is read again.
 pub fn model_of(alloc: Global, text: &[u8]) -> Result<Model, ReadingError>
     requires { length text.now ≤ TEXT_MAX }
     ensures ok { IfOk result (λ model. Reads text.now (graph_of model)) }
@@ -25,11 +25,19 @@ pub fn model_of(alloc: Global, text: &[u8]) -> Result<Model, ReadingError>
     let pieces = pieces(alloc, text)?;
     match read_model(alloc, &pieces) {
         Ok(model) => Ok(model),
+        Err(OnePassError::Unexpected { at }) => Err(ReadingError::At {
+            what: Complaint::Unexpected,
+            at,
+        }),
+        Err(OnePassError::TooDeep { at }) => Err(ReadingError::At {
+            what: Complaint::TooDeep,
+            at,
+        }),
         Err(OnePassError::Fault { kind, at }) => Err(ReadingError::At {
             what: Complaint::Static(kind),
             at,
         }),
-        Err(OnePassError::NoMemory) => Err(ReadingError::NoMemory),
         Err(OnePassError::Unsure) => read_as_written(alloc, &pieces),
+        Err(OnePassError::NoMemory) => Err(ReadingError::NoMemory),
     }
 }

@@ -6,14 +6,11 @@ use Rattle.model_core.specs.Static.FaultOrder.{StaticFault, earliest_fault}
 use Rattle.static_laws.specs.Checked.{Checked}
 use Rattle.static_laws.proofs.EarliestFaults.{earliest_fault-none}
 use Rattle.static_laws.proofs.OneFirstFault.{same_earliest, either_order}
-use Rattle.static_laws.proofs.Checks.{earliest_in_turn}
+use Rattle.static_laws.proofs.Checks.{earliest-append}
 
 -- of these faults and of those the same comes first, whatever was found before
 abbrev pub SameFirst : List StaticFault → List StaticFault → Type 0
 SameFirst fs gs = (t : Option StaticFault) → earliest_fault t fs ≡ earliest_fault t gs
-
-appended : (t : Option StaticFault) (fs gs : List StaticFault) → earliest_fault t (fs ++ gs) ≡ earliest_fault (earliest_fault t fs) gs
-appended t fs gs = sym (earliest_in_turn t (earliest_fault t fs) (earliest_fault (earliest_fault t fs) gs) fs gs refl refl)
 
 either_way : (fs gs : List StaticFault) (f : StaticFault) → Contains (fs ++ gs) f → Contains (gs ++ fs) f
 either_way fs gs f c = elim (Contains-append_cases fs gs f c) [ inl a ↦ Contains-append_right gs fs f a | inr b ↦ Contains-append_left gs fs f b ]
@@ -30,19 +27,19 @@ swapped (Some g) fs gs =
 
 -- one after the other
 pub same_first-both : (fs gs hs ks : List StaticFault) → SameFirst fs gs → SameFirst hs ks → SameFirst (fs ++ hs) (gs ++ ks)
-same_first-both fs gs hs ks p q = λ t. appended t fs hs ∙ ap (λ u. earliest_fault u hs) (p t) ∙ q (earliest_fault t gs) ∙ sym (appended t gs ks)
+same_first-both fs gs hs ks p q = λ t. earliest-append t fs hs ∙ ap (λ u. earliest_fault u hs) (p t) ∙ q (earliest_fault t gs) ∙ sym (earliest-append t gs ks)
 
 -- of four lists the two in the middle change places
 pub same_first-exchanged : (fs ps gs qs : List StaticFault) → SameFirst ((fs ++ ps) ++ (gs ++ qs)) ((fs ++ gs) ++ (ps ++ qs))
 same_first-exchanged fs ps gs qs = λ t.
     let u = earliest_fault t fs in
-    appended t (fs ++ ps) (gs ++ qs)
-    ∙ ap (λ v. earliest_fault v (gs ++ qs)) (appended t fs ps)
-    ∙ appended (earliest_fault u ps) gs qs
-    ∙ ap (λ v. earliest_fault v qs) (sym (appended u ps gs) ∙ swapped u ps gs ∙ appended u gs ps)
-    ∙ sym (appended (earliest_fault u gs) ps qs)
-    ∙ ap (λ v. earliest_fault v (ps ++ qs)) (sym (appended t fs gs))
-    ∙ sym (appended t (fs ++ gs) (ps ++ qs))
+    earliest-append t (fs ++ ps) (gs ++ qs)
+    ∙ ap (λ v. earliest_fault v (gs ++ qs)) (earliest-append t fs ps)
+    ∙ earliest-append (earliest_fault u ps) gs qs
+    ∙ ap (λ v. earliest_fault v qs) (sym (earliest-append u ps gs) ∙ swapped u ps gs ∙ earliest-append u gs ps)
+    ∙ sym (earliest-append (earliest_fault u gs) ps qs)
+    ∙ ap (λ v. earliest_fault v (ps ++ qs)) (sym (earliest-append t fs gs))
+    ∙ sym (earliest-append t (fs ++ gs) (ps ++ qs))
 
 -- a check finds its faults in any order
 pub checked_as : {P : Type 0} (t0 t1 : Option StaticFault) (fs gs : List StaticFault) → SameFirst fs gs → Checked t0 t1 fs P → Checked t0 t1 gs P

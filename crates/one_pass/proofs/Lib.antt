@@ -1,5 +1,4 @@
 mod AnyOrder
-mod FirstFaultError
 mod PartsInTurn
 mod WholeReads
 mod Alike

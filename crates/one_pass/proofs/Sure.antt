@@ -1,5 +1,5 @@
 -- What has no fault is checked without one.
-use Rattle.std.proofs.Common.{◌≡◌, ℕ, List, [], Option, refl}
+use Rattle.std.proofs.Common.{ℕ, List, Option, refl}
 use Rattle.model_core.specs.Text.Lexing.{Lexeme}
 use Rattle.model_core.specs.Text.Expressions.{LanguageFormat}
 use Rattle.model_core.specs.Text.Numbering.{Declared}

@@ -16,7 +16,7 @@ use Rattle.model_core.specs.Static.Meanings.{Meaning, AsWatched}
 use Rattle.model_core.specs.Static.RuleTable.{model_too_long}
 use Rattle.model_core.specs.Static.PartFaults.{if_written, vertex_faults, written_items, kinds_taken, use_faults, repeated_names, variable_faults, table_faults}
 use Rattle.model_core.specs.Static.VersionFaults.{is_version_two, number_faults, size_faults_version_1, vertex_faults_version_1, cells_faults, version_faults}
-use Rattle.model_core.specs.Static.ModelFaults.{model_meaning, model_takes, watch_faults, faults_of_parts, Accepted}
+use Rattle.model_core.specs.Static.ModelFaults.{model_meaning, model_takes, watch_faults, faults_of_parts}
 use Rattle.model_read.specs.Beginnings.{with_vertices}
 use Rattle.static_laws.specs.Checked.{Checked, CheckedPart, CheckedPlain}
 use Rattle.static_laws.specs.DeclaredFaults.{faults_of_declared}

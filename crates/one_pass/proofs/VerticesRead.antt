@@ -1,13 +1,12 @@
 -- A vertex that was read, from the parts of it that were read, and the vertices of a model.
-use Rattle.std.proofs.Common.{◌≡◌, ℕ, ◌<◌, ◌≤◌, Bool, cond, List, [], ◌∷◌, ◌++◌, length, map, Option, refl, ap, ◌∙◌, subst, sym, arith}
+use Rattle.std.proofs.Common.{◌≡◌, ℕ, ◌≤◌, Bool, true, cond, List, [], ◌++◌, length, map, Option, refl, ap, ◌∙◌, subst, sym}
 use Rattle.std.specs.List.{flat_map}
 use Rattle.std.proofs.lemmas.List.{length-map, append-nil}
 use Rattle.sig_base.specs.declared.limits.TheConstants.{CHANGES_MAX, EDGES_MAX}
 use Rattle.model_core.specs.declared.model.Kind.{Kind}
 use Rattle.model_core.specs.EventGraph as graph
 use Rattle.model_core.specs.Text.Lexing.{Lexeme}
-use Rattle.model_core.specs.Text.Format.{Many, at_least_one}
-use Rattle.model_core.specs.Text.Written.{WrittenChange, WrittenEdge, WrittenVertex}
+use Rattle.model_core.specs.Text.Written.{WrittenEdge, WrittenVertex}
 use Rattle.model_core.specs.Text.Language.{vertex_format}
 use Rattle.model_core.specs.Text.Numbering as numbering
 use Rattle.model_core.specs.Text.Numbering.{each_numbered, written_or}
@@ -16,8 +15,9 @@ use Rattle.model_core.specs.Static.Meanings.{Meaning}
 use Rattle.model_core.specs.Static.RuleTable.{name_too_long, too_many}
 use Rattle.model_core.specs.Static.PartFaults.{written_items, change_place, change_faults, edge_faults, parameters_faults, vertex_faults}
 use Rattle.model_core.specs.Static.VersionFaults.{target_faults_version_1, delay_faults_version_1, vertex_faults_version_1}
+use Rattle.text_laws.specs.FirstTokens.{first_sorts, begins_among}
 use Rattle.text_laws.specs.FormatReader.{took}
-use Rattle.text_laws.specs.LanguageReader.{language_reader}
+use Rattle.text_laws.specs.LanguageReader.{level_lookahead, language_reader}
 use Rattle.text_laws.specs.SomeTokens.{vertex-some}
 use Rattle.model_read.specs.Beginnings.{with_body, vertex_beginning}
 use Rattle.static_laws.specs.Checked.{CheckedPart}
@@ -85,13 +85,9 @@ module _ (is_two : Bool) (means : List ℕ → Option Meaning) (taken : List (Li
       }
 
   -- vertices, one or more
-  vertices_taken-read : (before after : List Lexeme) (ws : List WrittenVertex) → 0 < length ws → language_reader (Many vertex_format) before ≡ took ws after → language_reader (at_least_one vertex_format) before ≡ took ws after
-  vertices_taken-read before after [] some e = absurd (omega arith)
-  vertices_taken-read before after (w ∷ ws) some e = some-read vertex_format vertex-some before after w ws e
-
-  pub vertices_taken : (expected : List WrittenVertex) (t0 t1 : Option StaticFault) (before after : List Lexeme) (vs : List graph.EventVertex) → 0 < length vs
+  pub vertices_taken : (expected : List WrittenVertex) (t0 t1 : Option StaticFault) (before after : List Lexeme) (vs : List graph.EventVertex) → begins_among (first_sorts level_lookahead vertex_format) before ≡ true
       → (r : ReadParts vertex_format means (all_vertex_faults is_two means taken) numbering.vertex t0 t1 before after vs) → AllBeginAlike r.written expected → ReadVertices is_two means taken expected t0 t1 before after vs
-  vertices_taken expected t0 t1 before after vs some r alike = record {
-    parts = record { written = r.written; read = vertices_taken-read before after r.written (subst (λ n. 0 < n) (sym r.counted) some) r.read; checked = r.checked };
+  vertices_taken expected t0 t1 before after vs begun r alike = record {
+    parts = record { written = r.written; read = some-read vertex_format vertex-some before begun ∙ r.read; checked = r.checked };
     alike = alike;
   }

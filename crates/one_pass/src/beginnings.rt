@@ -6,27 +6,31 @@ ghost use Rattle.model_core.specs.Code.WrittenViews.{written_name, written_verte
 ghost use Rattle.model_read.specs.InText.{AreInText};
 ghost use Rattle.one_pass.specs.Inner.ReadParts.{BeginAlike};
 
-use crate::not_read::NotRead;
 use model_core::{RawName, RawVertex, Word};
 use model_lex::{Piece, PieceKind};
-use model_read::{Cursor, read_vertex_beginning};
-use sig_base::List;
+use model_read::{Cursor, Stop, read_vertex_beginning};
+use sig_base::{List, NoMemory};
 use sig_types::items;
 use std::alloc::Global;
 
-/// What follows each word `vertex`, up to the vertex's changes. The reader sees whether that is what the text spells.
+/// What follows each word `vertex`, up to the vertex's changes, before the first that no vertex begins with. The reader sees
+/// whether that is what the text spells.
 pub(crate) fn beginnings(
     alloc: Global,
     text: &[u8],
     tokens: &[Piece],
-) -> Result<List<RawVertex>, NotRead>
+) -> Result<List<RawVertex>, NoMemory>
     requires { AreInText text.now tokens.now }
 {
     let mut begun = List::new(alloc);
     for (place, token) in tokens.iter().enumerate() {
         if token.kind == PieceKind::Word(Word::Vertex) {
             let mut cursor = Cursor::new(text, &tokens[place..]);
-            begun.push(read_vertex_beginning(alloc, &mut cursor)?)?;
+            match read_vertex_beginning(alloc, &mut cursor) {
+                Ok(vertex) => begun.push(vertex)?,
+                Err(Stop::Unexpected) => return Ok(begun),
+                Err(Stop::NoMemory) => return Err(NoMemory),
+            }
         }
     }
     Ok(begun)

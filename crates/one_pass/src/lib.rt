@@ -6,6 +6,7 @@ mod beginnings;
 mod carried;
 mod changes;
 mod edges;
+mod endings;
 mod expressions;
 mod not_read;
 mod one_pass_error;

@@ -1,7 +1,8 @@
 //! Why reading in one pass gives no model.
 
 ghost use Rattle.std.specs.Prelude.{◌≡◌};
-ghost use Rattle.one_pass.specs.declared.not_read.NotRead.TheVariants.{NoMemory as OutOfMemory};
+ghost use Rattle.model_read.specs.declared.stop.Stop.TheVariants as stops;
+ghost use Rattle.one_pass.specs.declared.not_read.NotRead.TheVariants.{Unexpected as NotExpected, NoMemory as OutOfMemory};
 
 use model_read::Stop;
 use sig_base::NoMemory;
@@ -10,6 +11,9 @@ use std::alloc::{AllocError, AllocFailed};
 /// Why reading in one pass gives no model.
 #[derive(Clone, Copy, Debug, PartialEq, Eq)]
 pub enum NotRead {
+    /// The next token isn't one that the reader takes there, or none is left. The readers of a whole text promise that no text
+    /// goes on so.
+    Unexpected,
     /// The reader gave up. Nothing follows from that: not even that the pieces spell no model.
     Unsure,
     /// Memory was refused.
@@ -17,9 +21,11 @@ pub enum NotRead {
 }
 
 impl From<Stop> for NotRead {
+    ghost from_gives = { λ stop e. e ≡ NotExpected → stop ≡ stops.Unexpected };
+
     fn from(stop: Stop) -> NotRead {
         match stop {
-            Stop::Unexpected => NotRead::Unsure,
+            Stop::Unexpected => NotRead::Unexpected,
             Stop::NoMemory => NotRead::NoMemory,
         }
     }

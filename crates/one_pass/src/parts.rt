@@ -104,7 +104,7 @@ pub(crate) fn take_all<T: Part>(
         let begun = cursor.again();
         match T::take_sure(alloc, cursor, names, taken, is_two) {
             Ok(part) => parts.push(part)?,
-            Err(NotRead::Unsure) => {
+            Err(NotRead::Unexpected | NotRead::Unsure) => {
                 *cursor = begun;
                 parts.push(T::take_checked(alloc, cursor, names, taken, is_two, fault)?)?;
             }

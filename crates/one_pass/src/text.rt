@@ -1,30 +1,32 @@
 //! Reads and checks a whole model text.
 
-ghost use Rattle.std.specs.Prelude.{◌≡◌, ℕ, [], map, Option, None, Err, IfOk};
-ghost use Rattle.model_core.specs.declared.static_kind.StaticKind.{StaticKind as Rule};
-ghost use Rattle.model_core.specs.declared.token.Word.TheVariants.{End};
+ghost use Rattle.std.specs.Prelude.{◌≡◌, map, Option, None, IfOk, IfErr};
+ghost use Rattle.sig_base.specs.declared.limits.TheConstants.{OPENINGS_MAX};
 ghost use Rattle.model_core.specs.Code.Views.{vertex_of, graph_of};
 ghost use Rattle.model_core.specs.Code.WrittenViews.{written_vertex, written_model};
-ghost use Rattle.model_core.specs.Text.Format.{reserved};
+ghost use Rattle.model_core.specs.Text.Format.{at_least_one};
+ghost use Rattle.model_core.specs.Text.Language.{vertex_format};
+ghost use Rattle.model_core.specs.Text.Openings.{too_deep_at};
 ghost use Rattle.model_core.specs.Static.FaultOrder.{StaticFault, earliest_fault};
 ghost use Rattle.model_core.specs.Static.Meanings.{meaning_of};
 ghost use Rattle.model_core.specs.Static.PartFaults.{kinds_taken};
 ghost use Rattle.model_core.specs.Static.ModelFaults.{model_meaning};
 ghost use Rattle.text_laws.specs.FormatReader.{took};
-ghost use Rattle.text_laws.specs.LanguageReader.{language_reader};
+ghost use Rattle.text_laws.specs.LanguageReader.{language_reader, text_read};
 ghost use Rattle.model_lex.specs.PiecesOfText.{pieces_lexemes};
 ghost use Rattle.model_read.specs.Beginnings.{with_vertices, model_beginning};
 ghost use Rattle.static_laws.specs.DeclaredFaults.{faults_of_declared};
-ghost use Rattle.one_pass.specs.declared.one_pass_error.OnePassError.TheVariants as errors;
-ghost use Rattle.one_pass.specs.ReadModel.{AreAccepted, HaveFirstFault};
+ghost use Rattle.one_pass.specs.ReadModel.{AreAccepted, AreRefused};
 ghost use Rattle.one_pass.specs.Inner.AllFaults.{declared_version_faults};
-ghost use Rattle.one_pass.specs.Inner.ReadParts.{ReadVertices, ReadVerticesAfter, ReadText, ReadWhole};
+ghost use Rattle.one_pass.specs.Inner.ReadParts.{ReadVertices, ReadVerticesAfter, ReadText};
+ghost use Rattle.one_pass.specs.Inner.ToEnd.{to_end, LeavesStuck};
 
 use crate::beginnings::beginnings;
+use crate::endings::ending;
 use crate::not_read::NotRead;
 use crate::one_pass_error::OnePassError;
 use crate::vertices::vertices;
-use model_core::{Model, RawModel, RawVertex, Vertex, Word};
+use model_core::{Model, RawModel, RawVertex, Vertex};
 use model_lex::{Pieces, pieces_are_in_text};
 use model_read::{Cursor, first_too_deep, read_model_beginning};
 use sig_base::{List, OPENINGS_MAX};
@@ -43,11 +45,14 @@ fn expected_vertices(
     expected: &[RawVertex],
     fault: &mut FirstFault,
 ) -> Result<List<Vertex>, NotRead>
-    ensures { IfOk result
+    ensures ok { IfOk result
         (λ vs. ReadVertices is_two (meaning_of names.now)
         (map (kinds_taken (meaning_of names.now)) (map written_vertex expected.now))
         (map written_vertex expected.now) fault.old fault.new cursor.old cursor.new
         (map vertex_of vs)) }
+    ensures unexpected { IfErr result
+        (λ e. LeavesStuck e cursor.new
+        (to_end (language_reader (at_least_one vertex_format) cursor.old))) }
 {
     let taken = taken(alloc, names, expected)?;
     vertices(
@@ -69,11 +74,14 @@ fn among_names(
     begun: RawModel,
     fault: &mut FirstFault,
 ) -> Result<Model, NotRead>
-    ensures { IfOk result (λ model. meaning_of names.now ≡ model_meaning (written_model begun)
+    ensures ok { IfOk result (λ model. meaning_of names.now ≡ model_meaning (written_model begun)
         → (start : Option StaticFault)
         → fault.old ≡ earliest_fault start (faults_of_declared (written_model begun))
         → ReadVerticesAfter (written_model begun) start fault.new cursor.old cursor.new
         (graph_of model)) }
+    ensures unexpected { IfErr result
+        (λ e. LeavesStuck e cursor.new
+        (to_end (language_reader (at_least_one vertex_format) cursor.old))) }
 {
     let is_two = is_version_two(&begun.version);
     let lists = check_lists(
@@ -108,9 +116,12 @@ fn after_declarations(
     begun: RawModel,
     fault: &mut FirstFault,
 ) -> Result<Model, NotRead>
-    ensures { IfOk result
+    ensures ok { IfOk result
         (λ model. ReadVerticesAfter (written_model begun) fault.old fault.new cursor.old cursor.new
         (graph_of model)) }
+    ensures unexpected { IfErr result
+        (λ e. LeavesStuck e cursor.new
+        (to_end (language_reader (at_least_one vertex_format) cursor.old))) }
 {
     let names = declared(alloc, &begun, fault)?;
     among_names(alloc, cursor, &names, begun, fault)
@@ -128,6 +139,8 @@ fn declarations(
         ≡ took (with_vertices (written_model m)) cursor.new) }
     ensures version { IfOk result
         (λ m. fault.new ≡ earliest_fault fault.old (declared_version_faults (written_model m))) }
+    ensures unexpected { IfErr result
+        (λ e. LeavesStuck e cursor.new (language_reader model_beginning cursor.old)) }
 {
     let begun = read_model_beginning(alloc, cursor)?;
     report_version(&begun, fault);
@@ -135,15 +148,6 @@ fn declarations(
         vertices: expected,
         ..begun
     })
-}
-
-/// Reads the word `end`, and nothing after it. Gives its place.
-fn ending(cursor: &mut Cursor<'_>) -> Result<usize, NotRead>
-    ensures { IfOk result (λ at. language_reader (reserved End) cursor.old ≡ took at []) }
-{
-    let at = cursor.word(Word::End)?;
-    cursor.end()?;
-    Ok(at)
 }
 
 /// Reads a model text whose vertices begin so, and nothing after it.
@@ -154,7 +158,9 @@ fn text(
     fault: &mut FirstFault,
 ) -> Result<Model, NotRead>
     requires { fault.old ≡ None }
-    ensures { IfOk result (λ model. ReadText cursor.old fault.new (graph_of model)) }
+    ensures ok { IfOk result
+        (λ model. ReadText cursor.old cursor.new fault.new (graph_of model)) }
+    ensures unexpected { IfErr result (λ e. LeavesStuck e cursor.new (text_read cursor.old)) }
 {
     let begun = declarations(alloc, cursor, expected, fault)?;
     let model = after_declarations(alloc, cursor, begun, fault)?;
@@ -163,31 +169,33 @@ fn text(
     Ok(model)
 }
 
-/// Reads all of the pieces, where no part of them has too many openings.
-fn whole(alloc: Global, pieces: &Pieces<'_>, fault: &mut FirstFault) -> Result<Model, NotRead>
+/// Reads all of the pieces, which are those that the cursor has.
+fn whole(
+    alloc: Global,
+    pieces: &Pieces<'_>,
+    cursor: &mut Cursor<'_>,
+    fault: &mut FirstFault,
+) -> Result<Model, NotRead>
     requires { fault.old ≡ None }
-    ensures { IfOk result
-        (λ model. ReadWhole (pieces_lexemes pieces.now) fault.new (graph_of model)) }
+    ensures ok { IfOk result
+        (λ model. ReadText cursor.old cursor.new fault.new (graph_of model)) }
+    ensures unexpected { IfErr result (λ e. LeavesStuck e cursor.new (text_read cursor.old)) }
 {
     pieces_are_in_text();
-    let list = pieces.list.as_slice();
-    if let Some(_) = first_too_deep(list, OPENINGS_MAX) {
-        return Err(NotRead::Unsure);
-    }
-    let expected = beginnings(alloc, pieces.text, list)?;
-    let mut cursor = Cursor::new(pieces.text, list);
-    text(alloc, &mut cursor, expected, fault)
+    let expected = beginnings(alloc, pieces.text, pieces.list.as_slice())?;
+    text(alloc, cursor, expected, fault)
 }
 
-/// The model that all of the pieces spell, where it keeps every static rule, and else its first fault. `Unsure` says nothing of
-/// the pieces: `model_read` with `sig_types` says what is wrong with them.
-pub fn read_model(alloc: Global, pieces: &Pieces<'_>) -> Result<Model, OnePassError>
+/// The model that pieces spell of which no part has too many openings, or what is wrong with them.
+fn with_few_openings(alloc: Global, pieces: &Pieces<'_>) -> Result<Model, OnePassError>
+    requires { too_deep_at OPENINGS_MAX (pieces_lexemes pieces.now) ≡ None }
     ensures ok { IfOk result (λ model. AreAccepted (pieces_lexemes pieces.now) (graph_of model)) }
-    ensures fault { (kind : Rule) (at : ℕ) → result ≡ Err (errors.Fault kind at)
-        → HaveFirstFault (pieces_lexemes pieces.now) kind at }
+    ensures refused { IfErr result
+        (λ e. AreRefused pieces.now.text.now (pieces_lexemes pieces.now) e) }
 {
+    let mut cursor = Cursor::from_place(pieces, 0);
     let mut fault = FirstFault::new();
-    match whole(alloc, pieces, &mut fault) {
+    match whole(alloc, pieces, &mut cursor, &mut fault) {
         Ok(model) => match fault.found() {
             None => Ok(model),
             Some(found) => Err(OnePassError::Fault {
@@ -195,7 +203,23 @@ pub fn read_model(alloc: Global, pieces: &Pieces<'_>) -> Result<Model, OnePassEr
                 at: found.at,
             }),
         },
+        Err(NotRead::Unexpected) => Err(OnePassError::Unexpected {
+            at: cursor.place(pieces.text.len()),
+        }),
         Err(NotRead::Unsure) => Err(OnePassError::Unsure),
         Err(NotRead::NoMemory) => Err(OnePassError::NoMemory),
+    }
+}
+
+/// The model that all of the pieces spell, where it keeps every static rule, and else what is wrong with them. `Unsure` says
+/// nothing of the pieces: `model_read` with `sig_types` says what is wrong with them.
+pub fn read_model(alloc: Global, pieces: &Pieces<'_>) -> Result<Model, OnePassError>
+    ensures ok { IfOk result (λ model. AreAccepted (pieces_lexemes pieces.now) (graph_of model)) }
+    ensures refused { IfErr result
+        (λ e. AreRefused pieces.now.text.now (pieces_lexemes pieces.now) e) }
+{
+    match first_too_deep(pieces.list.as_slice(), OPENINGS_MAX) {
+        Some(at) => Err(OnePassError::TooDeep { at }),
+        None => with_few_openings(alloc, pieces),
     }
 }

@@ -1,20 +1,25 @@
 //! The vertices of a model.
 
-ghost use Rattle.std.specs.Prelude.{◌≡◌, cond, [], map, IfOk, OnOk};
+ghost use Rattle.std.specs.Prelude.{◌≡◌, cond, [], map, IfOk, IfErr, OnOk};
 ghost use Rattle.sig_base.specs.declared.limits.TheConstants.{PARAMETERS_MAX_VERSION_1};
 ghost use Rattle.model_core.specs.Code.Views.{change_of, edge_of, vertex_of};
 ghost use Rattle.model_core.specs.Code.WrittenViews.{written_name, written_vertex};
+ghost use Rattle.model_core.specs.Text.Format.{at_least_one};
+ghost use Rattle.model_core.specs.Text.Language.{vertex_format};
 ghost use Rattle.model_core.specs.Text.Written.{WrittenName};
 ghost use Rattle.model_core.specs.Text.Numbering.{each_numbered, numbered_parameter};
 ghost use Rattle.model_core.specs.Static.FaultOrder.{earliest_fault};
 ghost use Rattle.model_core.specs.Static.Meanings.{meaning_of};
 ghost use Rattle.model_core.specs.Static.RuleTable.{too_many};
 ghost use Rattle.model_core.specs.Static.PartFaults.{written_items};
+ghost use Rattle.text_laws.specs.LanguageReader.{language_reader};
 ghost use Rattle.static_laws.specs.Checked.{CheckedPart};
 ghost use Rattle.one_pass.specs.Inner.AllFaults.{all_beginning_faults};
 ghost use Rattle.one_pass.specs.Inner.ReadParts.{BeginAlike, ReadBody, ReadVertex, ReadVertices};
+ghost use Rattle.one_pass.specs.Inner.ToEnd.{to_end, LeavesStuck};
 
 use crate::beginnings::begin_alike;
+use crate::endings::reason;
 use crate::not_read::NotRead;
 use crate::parts::take_all;
 use model_core::{Change, Edge, Kind, RawName, RawVertex, Symbol, Vertex};
@@ -122,7 +127,8 @@ fn vertex(
     })
 }
 
-/// Reads vertices, one or more, which must begin as expected.
+/// Reads vertices, one or more, which must begin as expected. A vertex that isn't read is left, and what comes from there on is
+/// read as it is written: where that is stuck, so is the text.
 pub(crate) fn vertices(
     alloc: Global,
     cursor: &mut Cursor<'_>,
@@ -132,21 +138,34 @@ pub(crate) fn vertices(
     expected: &[RawVertex],
     fault: &mut FirstFault,
 ) -> Result<List<Vertex>, NotRead>
-    ensures { IfOk result
+    ensures ok { IfOk result
         (λ vs. ReadVertices is_two (meaning_of names.now) taken.now
         (map written_vertex expected.now) fault.old fault.new cursor.old cursor.new
         (map vertex_of vs)) }
+    ensures unexpected { IfErr result
+        (λ e. LeavesStuck e cursor.new
+        (to_end (language_reader (at_least_one vertex_format) cursor.old))) }
 {
+    if !RawVertex::begins(cursor) {
+        return Err(NotRead::Unsure);
+    }
     let mut vertices = Vec::with_capacity(alloc, expected.len())?;
     for begun in expected {
         if !RawVertex::begins(cursor) {
-            return Err(NotRead::Unsure);
+            return Err(reason(alloc, cursor));
         }
-        vertices.push(vertex(alloc, cursor, names, taken, is_two, begun, fault)?)?;
+        let from = cursor.again();
+        match vertex(alloc, cursor, names, taken, is_two, begun, fault) {
+            Ok(read) => vertices.push(read)?,
+            Err(NotRead::NoMemory) => return Err(NotRead::NoMemory),
+            Err(NotRead::Unexpected | NotRead::Unsure) => {
+                *cursor = from;
+                return Err(reason(alloc, cursor));
+            }
+        }
     }
-    let vertices = List::from_vec(vertices);
-    if RawVertex::begins(cursor) || vertices.len() == 0 {
-        return Err(NotRead::Unsure);
+    if RawVertex::begins(cursor) {
+        return Err(reason(alloc, cursor));
     }
-    Ok(vertices)
+    Ok(List::from_vec(vertices))
 }

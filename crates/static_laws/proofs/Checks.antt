@@ -6,7 +6,7 @@ use Rattle.model_core.specs.Static.Meanings.{Meaning}
 use Rattle.model_core.proofs.EmptyLists.{left_empty, right_empty}
 use Rattle.static_laws.specs.Checked.{Checked, NumberedAs, CheckedPart, CheckedPlain}
 
-earliest-append : (so_far : Option StaticFault) (fs gs : List StaticFault) → earliest_fault so_far (fs ++ gs) ≡ earliest_fault (earliest_fault so_far fs) gs
+pub earliest-append : (so_far : Option StaticFault) (fs gs : List StaticFault) → earliest_fault so_far (fs ++ gs) ≡ earliest_fault (earliest_fault so_far fs) gs
 earliest-append so_far [] gs = refl
 earliest-append so_far (f ∷ fs) gs = earliest-append (earlier_fault so_far f) fs gs
 

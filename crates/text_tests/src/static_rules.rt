@@ -1,9 +1,10 @@
-//! Texts that keep all static rules: they are read in one pass, as the models that they spell.
+//! Texts that keep all static rules: they are read in one pass, as the models that they spell. Texts of no model: they are refused
+//! in that pass.
 
 use model_core::{Model, RawModel, same_model};
 use model_lex::{ParseError, pieces, tokens};
 use model_read::parse;
-use one_pass::read_model;
+use one_pass::{OnePassError, read_model};
 use sig_base::NoMemory;
 use sig_types::{StaticError, check};
 use std::alloc::Global;
@@ -22,17 +23,35 @@ pub fn checked(alloc: Global, text: &[u8]) -> Result<Model, StaticError> {
     }
 }
 
-/// The model that is read of a text in one pass.
-fn read_at_once(alloc: Global, text: &[u8]) -> Option<Model> {
-    let pieces = pieces(alloc, text).ok()?;
-    read_model(alloc, &pieces).ok()
+/// What reading a text in one pass answers.
+fn read_at_once(alloc: Global, text: &[u8]) -> Result<Model, OnePassError> {
+    let pieces = pieces(alloc, text).map_err(|_| OnePassError::NoMemory)?;
+    read_model(alloc, &pieces)
 }
 
 /// Whether a text is read in one pass, as the model that it spells.
 fn is_read_at_once(alloc: Global, text: &[u8]) -> bool {
     match (checked(alloc, text), read_at_once(alloc, text)) {
-        (Ok(model), Some(at_once)) => same_model(&model, &at_once),
+        (Ok(model), Ok(at_once)) => same_model(&model, &at_once),
         _ => false,
+    }
+}
+
+#[test]
+fn what_is_no_text_is_refused_at_once(rt: HostRuntime) {
+    for (text, at) in [
+        (b"".as_slice(), 0),
+        (b"model M; var X : 0..9 = ;", 24),
+        (b"model M; vertex { } end", 16),
+        (b"model M; vertex RUN { set X := ; } end", 31),
+        (b"model M; vertex RUN { } vertex } vertex END { } end", 31),
+        (b"model M; vertex RUN { } edge vertex END { } end", 24),
+        (b"model M; vertex RUN { } end vertex END { } end", 28),
+        (b"model M; vertex RUN { }", 23),
+        (b"model M; vertex RUN { schedule END; } end end", 42),
+    ] {
+        let read = read_at_once(rt.alloc(), text).map(|_| ());
+        assert_eq!(rt; read, Err(OnePassError::Unexpected { at }));
     }
 }
 

@@ -1,7 +1,7 @@
 -- What was read and checked at once: what is written there, that it breaks no static rule, and what it is with numbers in place of names.
 use Rattle.std.specs.Prelude.{◌≡◌, ◌≤◌, ℕ, Bool, List, [], ◌∷◌, length, Option, Some, None}
 use Rattle.std.specs.List.{flat_map}
-use Rattle.sig_base.specs.declared.limits.TheConstants.{CHANGES_MAX, EDGES_MAX, OPENINGS_MAX}
+use Rattle.sig_base.specs.declared.limits.TheConstants.{CHANGES_MAX, EDGES_MAX}
 use Rattle.model_core.specs.declared.model.Kind.{Kind}
 use Rattle.model_core.specs.declared.token.Symbol.TheVariants as symbols
 use Rattle.model_core.specs.EventGraph as graph
@@ -10,8 +10,7 @@ use Rattle.model_core.specs.Text.Lexing.{Lexeme}
 use Rattle.model_core.specs.Text.Format.{Many, mark, at_least_one}
 use Rattle.model_core.specs.Text.Written.{WrittenVertex, WrittenModel}
 use Rattle.model_core.specs.Text.Expressions.{LanguageFormat}
-use Rattle.model_core.specs.Text.Language.{change_format, edge_format, vertex_format, IsText}
-use Rattle.model_core.specs.Text.Openings.{HasFewOpenings}
+use Rattle.model_core.specs.Text.Language.{change_format, edge_format, vertex_format}
 use Rattle.model_core.specs.Text.Numbering as numbering
 use Rattle.model_core.specs.Text.Numbering.{Declared, each_numbered, numbered}
 use Rattle.model_core.specs.Static.FaultOrder.{StaticFault}
@@ -91,15 +90,8 @@ pub record IsDecided (m : WrittenModel) (first : Option StaticFault) (g : EventG
   pub is_first : first ≡ first_fault m
   pub accepted : first ≡ None → Accepted m g
 
--- a whole text, of which no token is left
-pub record ReadText (tokens : List Lexeme) (first : Option StaticFault) (g : EventGraph) : Type 0 where
+-- a whole text, after which no token comes
+pub record ReadText (before after : List Lexeme) (first : Option StaticFault) (g : EventGraph) : Type 0 where
   pub written : WrittenModel
-  pub read : text_read tokens ≡ took written []
-  pub decided : IsDecided written first g
-
--- the tokens are the text of a written model
-pub record ReadWhole (tokens : List Lexeme) (first : Option StaticFault) (g : EventGraph) : Type 0 where
-  pub written : WrittenModel
-  pub spelled : IsText tokens written
-  pub few_openings : HasFewOpenings OPENINGS_MAX tokens
+  pub read : text_read before ≡ took written after
   pub decided : IsDecided written first g

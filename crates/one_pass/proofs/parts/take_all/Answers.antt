@@ -26,7 +26,7 @@ loop-alloc-preserved-in_ok-push-in-Ok g c =
 -- one that was read once more, from where it begins
 pub loop-alloc-smaller : goal.loop-alloc-smaller
 loop-alloc-smaller g c =
-    let part = subst (λ (before : List Lexeme). ReadChecked g.T.Part.format (meaning_of c.args.names.now) (g.T.Part.faults c.args.is_two (meaning_of c.args.names.now) c.args.taken.now) g.T.Part.number c.loop-alloc.fault c.take_checked.new.fault before c.take_checked.new.cursor (g.T.Part.plain c.in_ok-take_checked-in-Err-Unsure.field-0)) c.again-begun.ensures c.in_ok-take_checked-in-Err-Unsure.ensures in
+    let part = subst (λ (before : List Lexeme). ReadChecked g.T.Part.format (meaning_of c.args.names.now) (g.T.Part.faults c.args.is_two (meaning_of c.args.names.now) c.args.taken.now) g.T.Part.number c.loop-alloc.fault c.take_checked.new.fault before c.take_checked.new.cursor (g.T.Part.plain c.in_ok-take_checked-in-Err-Unexpected.field-0)) c.again-begun.ensures c.in_ok-take_checked-in-Err-Unexpected.ensures in
     let s = shorter g.T.Part.format g.met.T.Part.some_tokens c.loop-alloc.cursor part.written c.take_checked.new.cursor part.read in
     omega arith
 
@@ -35,8 +35,8 @@ loop-alloc-preserved g c =
     let m = meaning_of c.args.names.now in
     let faults = g.T.Part.faults c.args.is_two m c.args.taken.now in
     one_more_taken g.T.Part.format m faults g.T.Part.number g.T.Part.plain g.met.T.Part.some_tokens c.args.fault.now c.loop-alloc.fault c.take_checked.new.fault c.args.cursor.now c.loop-alloc.cursor c.take_checked.new.cursor
-    c.loop-alloc.parts c.push-in-Err-Unsure.new.self c.in_ok-take_checked-in-Err-Unsure.field-0 (sym c.loop-alloc-test.ensures) c.in_ok-push-in-Err-Unsure.ensures.ok c.loop-alloc.invariant
-    (subst (λ (before : List Lexeme). ReadChecked g.T.Part.format m faults g.T.Part.number c.loop-alloc.fault c.take_checked.new.fault before c.take_checked.new.cursor (g.T.Part.plain c.in_ok-take_checked-in-Err-Unsure.field-0)) c.again-begun.ensures c.in_ok-take_checked-in-Err-Unsure.ensures)
+    c.loop-alloc.parts c.push-in-Err-Unexpected.new.self c.in_ok-take_checked-in-Err-Unexpected.field-0 (sym c.loop-alloc-test.ensures) c.in_ok-push-in-Err-Unexpected.ensures.ok c.loop-alloc.invariant
+    (subst (λ (before : List Lexeme). ReadChecked g.T.Part.format m faults g.T.Part.number c.loop-alloc.fault c.take_checked.new.fault before c.take_checked.new.cursor (g.T.Part.plain c.in_ok-take_checked-in-Err-Unexpected.field-0)) c.again-begun.ensures c.in_ok-take_checked-in-Err-Unexpected.ensures)
 
 pub returns : goal.returns
 returns g c =
