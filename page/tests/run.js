@@ -19,6 +19,16 @@ equal("starting values have fields", [...document.querySelectorAll("#start-field
 check("the line of a shell", text_at("run-shell")
   .includes(`sigma ${run_words.words("run").join(" ")} < clinic.sigma`));
 
+// Each example of the gallery is filled in, and its words make a run that goes well and shows something.
+for (const [name, text] of Object.entries(gallery.examples)) {
+  await opened(name, text);
+  const { out, status } = await engine.call("test", run_words.words("run"), text);
+  check(`${name}: its words show a run`, status === 0 && out.split("\n").length > 2, [run_words.words("run"), status]);
+  check(`${name}: it is filled in`, text_at("unfilled") === "" && (text === examples[name]) === !unfilled(examples[name]).length);
+}
+await opened("mm1");
+check("a text that isn't says so", text_at("unfilled").startsWith("Not filled in yet: GAP, SERVICE."), text_at("unfilled"));
+
 // Each step shows what the program wrote at that event, forwards and backwards, and from an event in the midst.
 for (const [name, time] of [["emergency", "480"], ["network", "600"]]) {
   await opened(name);
