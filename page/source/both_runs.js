@@ -5,7 +5,7 @@ const both_runs = {
   rows: [],
 
   async go() {
-    const { before, after, lines } = reducing.result, words = {};
+    const { result } = reducing, { before, after, lines } = result, words = {};
     const asked = Number(run_words.events());
     if (asked > both_runs.MOST_EVENTS) words.events = String(both_runs.MOST_EVENTS);
     app.say("both-status", "running both …");
@@ -14,9 +14,10 @@ const both_runs = {
     try {
       const [first, second] = await Promise.all([both_runs.run("before", before, words),
         both_runs.run("after", after, words)]);
-      if (first && second) both_runs.show(first, second, both_runs.renamed(lines));
+      if (first && second && result === reducing.result) both_runs.show(first, second, both_runs.renamed(lines));
     } catch (problem) {
-      app.say("both-status", problem instanceof Superseded ? "stopped" : problem.message);
+      if (result === reducing.result)
+        app.say("both-status", problem instanceof Superseded ? "stopped" : problem.message);
     }
     at("reduce-stop").disabled = true;
   },

@@ -20,8 +20,9 @@ for (const [file, [, stored]] of Object.entries(given.stored).filter(([file]) =>
   equal(`${name}: what goes is grey`, all("#picture .node.gone").map(node => node.dataset.name).sort(),
     before.vertices.map(vertex => vertex.name).filter(each => !left.has(each)).sort());
   check(`${name}: what is left is beside it`, all("#beside .node").length === after.vertices.length);
-  if (output.startsWith(before.text)) check(`${name}: it comes back as it was`,
-    text_at("reduce-status").includes("leaves the model as it was") && at("reduce-take").disabled);
+  if (output.startsWith(before.text)) check(`${name}: it comes back as it was, and no run of another is shown`,
+    text_at("reduce-status").includes("leaves the model as it was") && at("reduce-take").disabled
+      && !text_at("both-status") && at("both-done").hidden);
   else {
     check(`${name}: the same run of both`, text_at("both-status").startsWith("Both show the same"),
       text_at("both-status"));
