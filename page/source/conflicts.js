@@ -27,9 +27,10 @@ const conflicts = {
 
   show_pairs(pairs, uses, model) {
     app.say("conflict-status", pairs.length
-      ? `For ${plural(pairs.length, "pair")} the order of two events of one time and one priority can matter. A ` +
-        `priority on an edge settles it.`
-      : "No two events are in conflict: in whatever order simultaneous events of one priority occur, they commute.");
+      ? `For ${plural(pairs.length, "pair")} the order of two events of one time and one priority can matter. Where it ` +
+        `does, give the edges to the one that is to be first a lower number as their priority; urgent edges have none.`
+      : "No two events are in conflict: any two of one time and one priority commute, taken by themselves. What they " +
+        "schedule for the same time isn't looked at.");
     const items = pairs.slice(0, conflicts.MOST).map(pair => conflicts.item(pair, reasons_in_words(pair, model, uses)));
     if (pairs.length > conflicts.MOST)
       items.push(Object.assign(document.createElement("li"),
