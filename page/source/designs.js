@@ -80,7 +80,9 @@ const designs = {
     if (design.text !== null) {
       line.append(designs.button("Edit", "shows the text, to be changed", () => designs.edit(row, design)),
         designs.button("Open", "puts the text into the editor, in place of what is there",
-          () => app.set_text(design.text)));
+          () => app.set_text(design.text)),
+        designs.button("Save", "saves the text as a file of the design's name",
+          () => files.download(`${design.name}.sigma`, "text/plain", design.text)));
     }
     if (k) line.append(designs.button("Remove", "", () => designs.remove(k)));
     note.textContent = designs.text_in_words(design);

@@ -54,7 +54,7 @@ const experiment_results = {
 
   // The items of the first design, and a sum if one is asked for.
   items(results) {
-    const sum = at("exp-sum").value.replace(/\s/g, ""), items = [...results[0].report.items.keys()];
+    const sum = experiments.sum(), items = [...results[0].report.items.keys()];
     return sum ? [sum, ...items.filter(item => item !== sum)] : items;
   },
 

@@ -41,7 +41,8 @@ function plot_frame(width, height, x_range, y_range, label, least_step = 1) {
   }
   for (const tick of plot_ticks(x_range[0], x_range[1], Math.max(2, Math.floor(wide / 80)))) {
     picture.append(plot_part("path", { class: "axis", d: `M${x(tick)} ${top + high}v3` }));
-    picture.append(plot_part("text", { x: x(tick), y: height - 5, "text-anchor": "middle" }, tick_text(tick)));
+    const words = tick_text(tick), place = Math.min(x(tick), width - 3.2 * words.length);
+    picture.append(plot_part("text", { x: place, y: height - 5, "text-anchor": "middle" }, words));
   }
   const value_of_x = place => x_range[0] + (place - left) / wide * x_size;
   return { picture, x, y, value_of_x, foot: top + high };
@@ -137,8 +138,10 @@ function histogram_plot(lists, labels, bar, width, height) {
 
 // How a mean settles: rows of [tick, mean, smoothed mean], and the tick of the cut.
 function settling_plot(rows, cut, width, height) {
-  const highest = rows.reduce((most, [, mean, smooth]) => Math.max(most, mean, smooth), 0);
-  const frame = plot_frame(width, height, [0, rows[rows.length - 1][0]], [0, highest || 1], "how the mean settles", 0);
+  const means = rows.flatMap(([, mean, smooth]) => [mean, smooth]), lowest = means.reduce((a, b) => Math.min(a, b), 0),
+    highest = means.reduce((a, b) => Math.max(a, b), 0);
+  const frame = plot_frame(width, height, [0, rows[rows.length - 1][0]], [lowest, highest > lowest ? highest : 1],
+    "how the mean settles", 0);
   const { picture, x, y, foot } = frame;
   const line = column => rows.map((row, k) => `${k ? "L" : "M"}${x(row[0])} ${y(row[column])}`).join("");
   picture.append(plot_part("path", { class: "faint", d: line(1) }),
