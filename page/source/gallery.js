@@ -29,10 +29,11 @@ const gallery = {
   rank(name) { return (gallery.questions[name]?.question ? 0 : 100) + Object.keys(gallery.questions).indexOf(name); },
 
   card(name) {
-    const { title, question } = gallery.questions[name] || {}, said = first_sentence(gallery.examples[name]) || title;
+    const { title = "", question } = gallery.questions[name] || {};
+    const said = first_sentence(gallery.examples[name]) || `${title.slice(0, 1).toUpperCase()}${title.slice(1)}.`;
     return html("button", { className: "card", "data-name": name, onclick: () => gallery.choose(name) },
       html("b", {}, name.replaceAll("_", " ")), question ? html("i", {}, question) : null,
-        html("span", {}, said || ""));
+        html("span", {}, said));
   },
 
   async choose(name) {

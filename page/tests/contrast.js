@@ -52,8 +52,8 @@ const faults = () => {
       ground(element.parentElement));
     if (value < 3) note(element, "border", value);
   }
-  for (const line of document.querySelectorAll("#picture .node ellipse, #picture .edge .line")) {
-    const below = ground(at("pictures")), value = contrast(over(rgba(getComputedStyle(line).stroke), below), below);
+  for (const line of document.querySelectorAll(":is(#picture, .thumb) :is(.node ellipse, .edge .line)")) {
+    const below = ground(line.closest("svg")), value = contrast(over(rgba(getComputedStyle(line).stroke), below), below);
     if (value < 3) note(line, "line", value);
   }
   return [...found];
@@ -92,7 +92,7 @@ for (const name of ["light", "dark"]) {
     at(id).close();
   }
   at("examples-open").click();
-  await until(() => document.querySelectorAll(".card").length);
+  await until(() => document.querySelectorAll(".thumb").length);
   await shown("the gallery");
   at("gallery").close();
   for (const tab of tabs.all) {

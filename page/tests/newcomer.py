@@ -1,11 +1,41 @@
-"""As a new user would, by mouse and keys: run the bank and step through it, compare two and three tellers, reduce polling."""
+"""As a new user would, by mouse and keys: the desk as docs/use/tutorial.md has it; run the bank and step through it, compare two and
+three tellers, reduce polling."""
 
 
 def tab(browser, name):
     browser.click(f"#tab-of-{name}")
 
 
+def choose_example(browser, name):
+    browser.click("#examples-open")
+    browser.run("[...document.querySelectorAll('#cards .card')].find(card => card.dataset.name === values[0]).id = 'card-of-' + values[0]", name)
+    browser.click(f"#card-of-{name}")
+    browser.until(f"app.file === '{name}.sigma' && app.fresh && app.picture.model === app.model")
+
+
+def mean_queue(browser):
+    """Runs the desk, and returns what the page says of the visitors who wait on average."""
+    browser.click("#run-go")
+    browser.until("at('run-status').textContent.startsWith('Stopped at 480')")
+    return browser.text("#run-courses small")
+
+
+def tutorial(browser, check):
+    choose_example(browser, "desk")
+    browser.write("#until", "480")
+    check("0.04 visitors wait on average", mean_queue(browser) == "average 0.0416667", browser.text("#run-courses"))
+    browser.click('#picture .edge[data-from="SERVE"][data-place="0"]')
+    browser.until("document.querySelector('#inspector [data-field=delay]')")
+    check("a service takes 4 ticks", browser.run("return document.querySelector('#inspector [data-field=delay]').value") == "4")
+    browser.write("#inspector [data-field=delay]", "5\n")
+    browser.until("app.editor.text().includes('schedule LEAVE after 5;') && app.fresh && app.picture.model === app.model")
+    check("and with 5 of them 0.21", mean_queue(browser) == "average 0.210417", browser.text("#run-courses"))
+    browser.click("#undo")
+    browser.until("app.editor.text().includes('schedule LEAVE after 4;') && app.fresh")
+
+
 def test(browser, check, given, shots):
+    tutorial(browser, check)
     browser.run("await app.set_text(values[0], 'bank.sigma')", given["examples"]["bank"])
     browser.until("app.fresh && app.picture.model === app.model")
 
@@ -49,10 +79,7 @@ def test(browser, check, given, shots):
         browser.shot(f"{shots}/experiments.png")
 
     # Polling, reduced.
-    browser.click("#examples-open")
-    browser.run("[...document.querySelectorAll('#cards .card')].find(card => card.textContent.includes('polling')).id = 'the-card'")
-    browser.click("#the-card")
-    browser.until("app.file === 'polling.sigma' && app.fresh && app.picture.model === app.model")
+    choose_example(browser, "polling")
     tab(browser, "reduce")
     browser.click("#do-reduce")
     browser.until("at('reduce-verdict').textContent.endsWith('sound') && at('both-status').textContent.startsWith('Both show the same')", 60)

@@ -18,6 +18,7 @@ STATES = [
                   " document.querySelectorAll('#conflict-list button')[1].click()"),
     ("uses", "document.querySelector('#uses-table button').click()"),
     ("command", "tabs.open('cli'); await command_line.call('run --until 480 --seed 7 --events 100000')"),
+    ("starts", "await app.set_text(given.call_centre, 'call_centre.sigma'); tabs.open('run'); await run_tab.run(); player.show(1); await wait(300)"),
 ]
 
 WIDER = """
@@ -35,7 +36,7 @@ return [...document.querySelectorAll('#panel button, #panel input, #panel select
 
 
 def test(browser, check, given, shots):
-    examples = {name: given["examples"][name] for name in ("bank", "desk", "polling")}
+    examples = {name: given["examples"][name] for name in ("bank", "call_centre", "desk", "polling")}
     browser.run("views.show('panel')")
     for width, height, kind in [(1400, 900, "wide"), (390, 844, "small")]:
         browser.size(width, height)

@@ -40,6 +40,6 @@ def test(browser, check, given, shots):
         if shots:
             file = f"{shots}/{name}.png"
             browser.shot(file)
-            check(f"{name} is at most 150 KB", os.path.getsize(file) <= 150000, os.path.getsize(file))
+            check(f"{name} is at most 200 KB", os.path.getsize(file) <= 200000, os.path.getsize(file))
     browser.run("document.querySelector('dialog[open]').close()")
     browser.size(1400, 900)
