@@ -24,8 +24,9 @@ function start_graph() {
     if (app.model) files.download(`${app.model.name}.png`, "image/png",
       await picture_as_png(app.picture.file(), app.picture.size));
   };
-  new ResizeObserver(() => { for (const picture of app.pictures) if (!picture.own) picture.fit(
-    picture.least()); }).observe(at("pictures"));
+  const resized = new ResizeObserver(() => { for (const picture of app.pictures) if (!picture.own) picture.fit(
+    picture.least()); });
+  for (const id of ["pictures", "tools"]) resized.observe(at(id));
 }
 
 function start_text(text) {

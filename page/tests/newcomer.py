@@ -1,5 +1,5 @@
-"""As a new user would, by mouse and keys: the desk as docs/use/tutorial.md has it; run the bank and step through it, compare two and
-three tellers, reduce polling."""
+"""As a new user would, by mouse and keys: the desk as docs/use/tutorial.md has it; run the bank and step through it, compare two
+and three tellers, reduce polling."""
 
 
 def tab(browser, name):
@@ -8,7 +8,7 @@ def tab(browser, name):
 
 def choose_example(browser, name):
     browser.click("#examples-open")
-    browser.run("[...document.querySelectorAll('#cards .card')].find(card => card.dataset.name === values[0]).id = 'card-of-' + values[0]", name)
+    browser.run("document.querySelector(`#cards [data-name=${values[0]}]`).id = 'card-of-' + values[0]", name)
     browser.click(f"#card-of-{name}")
     browser.until(f"app.file === '{name}.sigma' && app.fresh && app.picture.model === app.model")
 

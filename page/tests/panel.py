@@ -1,5 +1,5 @@
-"""Looks at each tab of the panel with something in it, wide and narrow, in light and in dark: nothing is wider than the panel, each
-control has a name, and no id occurs twice. With --shots it writes what it sees."""
+"""Looks at each tab of the panel with something in it, wide, middling and narrow, in light and in dark: nothing is wider than the
+panel, each control has a name, and no id occurs twice. With --shots it writes what it sees."""
 
 # A state: its name, and how the page gets into it.
 STATES = [
@@ -38,7 +38,7 @@ return [...document.querySelectorAll('#panel button, #panel input, #panel select
 def test(browser, check, given, shots):
     examples = {name: given["examples"][name] for name in ("bank", "call_centre", "desk", "polling")}
     browser.run("views.show('panel')")
-    for width, height, kind in [(1400, 900, "wide"), (390, 844, "small")]:
+    for width, height, kind in [(1400, 900, "wide"), (800, 600, "middle"), (390, 844, "small")]:
         browser.size(width, height)
         for theme in ("light", "dark"):
             browser.run("theme.set(values[0])", theme)

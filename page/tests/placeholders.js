@@ -2,7 +2,8 @@
 // The tables and arrays that a text asks for, until they are filled in.
 const asks = unfilled(given.examples.mm1);
 equal("two tables of one row", asks, ["GAP", "SERVICE"]);
-equal("and four of a call centre, whose rates are filled in", unfilled(given.examples.call_centre), ["GAP", "SALES", "SUPPORT", "PATIENCE"]);
+equal("and four of a call centre, whose rates are filled in", unfilled(given.examples.call_centre),
+  ["GAP", "SALES", "SUPPORT", "PATIENCE"]);
 equal("nothing where no comment asks", unfilled(given.examples.bank), []);
 const model = (rows, below) => "model M;\n# table GAP exponential 100;\n" +
   `table GAP {${rows}}\nvertex V {\n  # values RATE rates.csv calls;\n${below}}\nend\n`;
