@@ -1,5 +1,6 @@
--- Runs of a model and of the same with inductive ranges declared are the same, in lock step with each moment as it is.
-use Rattle.std.proofs.Common.{◌≡◌, inl, inr, ℕ, ◌≤◌, ◌^◌, ℤ, true, IsTrue, List, [], ◌∷◌, map, zip, Some, None, Ok, refl, sym, ◌∙◌, ap, ap₂, subst}
+-- Runs of a model and of the same with inductive ranges declared are the same, in lock step with each moment as it is, and stay within
+-- these ranges.
+use Rattle.std.proofs.Common.{◌≡◌, inl, inr, ℕ, ◌≤◌, ◌^◌, ℤ, true, IsTrue, List, [], ◌∷◌, map, zip, Some, None, Ok, refl, sym, ◌∙◌, ap, ap₂, subst, le_trans}
 use Rattle.std.proofs.lemmas.List.{map-id}
 use Rattle.std.specs.Prelude.{replicate}
 use Rattle.std.specs.List.{AllByRecursion}
@@ -10,16 +11,19 @@ use Rattle.model_core.specs.Run.Changes.{ChangeState, make_change}
 use Rattle.model_core.specs.Run.Pending.{Entry, EntryAndRest, next_entry}
 use Rattle.model_core.specs.Run.Edges.{EdgeState, treat_edge}
 use Rattle.model_core.specs.Run.Step.{Configuration, vertex_at, receive, occur}
-use Rattle.model_core.specs.Run.History.{Moment, start}
+use Rattle.model_core.specs.Run.Machine.{Note, Goes, Reached}
+use Rattle.model_core.specs.Run.History.{Moment, next_move, start, reached_from}
 use Rattle.model_core.specs.Run.Same.{Same, watched_name_of, VariableNamed, Parameter, parameter}
 use Rattle.model_core.specs.Static.OwnRules.{KeepsParts}
 use Rattle.model_core.proofs.Alongside.{Alongside, both_go, both_fail, alongside-equal, alongside-known, bind-alongside, in_turn-alongside}
 use Rattle.model_core.proofs.Among.{Among}
-use Rattle.run_laws.proofs.InRange.{in_range-kept}
-use Rattle.run_laws.proofs.Keeping.{received}
+use Rattle.run_laws.proofs.InRange.{in_range-kept, runs_keep_range}
+use Rattle.run_laws.proofs.Keeping.{received, faulted-ok}
+use Rattle.run_laws.proofs.GoingMoves.{move-by, reached-keeps}
 use Rattle.run_laws.proofs.MappedPending.{taken_off_mapped, next_among-every}
 use Rattle.run_laws.proofs.EdgesAlike.{unchanged, entries_in_order-unchanged, configuration-unchanged}
 use Rattle.run_laws.proofs.LockStep.{configuration_mapped, Follows, follows-looks}
+use Rattle.bound_laws.proofs.BeginsInRange.{kept_models_begin_in_range}
 use Rattle.model_core.specs.declared.var_range.VarRange.{VarRange}
 use Rattle.model_core.specs.Ranges.OtherRanges.{with_range, model_with_ranges}
 use Rattle.model_core.specs.Ranges.Inductive.{is_fixed, Fitting, Inductive}
@@ -28,6 +32,11 @@ use Rattle.range_infer.proofs.NarrowModels.{fits_everywhere, parameter_fixed, be
 use Rattle.range_infer.proofs.SameStores.{StoreFits, same_stores, fixed_fits}
 use Rattle.range_infer.proofs.SameChanges.{same_change}
 use Rattle.range_infer.proofs.SameEdges.{EntryFits, PlannedFits, same_edge, edge_fits}
+
+-- at each moment that a run reaches the values lie within the declared ranges
+pub stays_declared : (g : EventGraph) → KeepsParts g → (seed until n : ℕ) (starts : List ℤ) (r : Reached Moment) → reached_from g seed until n (start g starts) ≡ Some r → IsTrue (in_range g r.moment.now.state)
+stays_declared g keeps seed until n starts r there =
+    reached-keeps (next_move g seed until) (λ k m. IsTrue (in_range g m.now.state)) (λ k m later notes inside goes. runs_keep_range g seed until m later notes inside goes) n 0 (start g starts) r (kept_models_begin_in_range g keeps) there
 
 -- one value, of which a fact holds
 abbrev OneAnd : {S : Type 0} → (S → Type 0) → S → S → Type 0
@@ -127,6 +136,22 @@ module _ (g : EventGraph) (ranges : List VarRange) (keeps : KeepsParts g) (fitti
 
   begins_so : (starts : List ℤ) → record { now = configuration_mapped (λ s. s) (λ words. words) unchanged (start g starts).now; noted = None } ≡ start h starts
   begins_so starts = ap (λ (s : State). let m : Moment = record { now = record { clock = 0; state = s; taken = replicate 64 0; pending = record { time = 0; priority = 5; vertex = 0; values = starts } ∷ [] }; noted = None } in m) (same_start g ranges)
+
+  -- ---- at each moment that a run reaches
+
+  sound_after : {r q : OrFault Configuration} → Alongside (OneAnd Sound) r q → (c : Configuration) → r ≡ Ok c → Sound c
+  sound_after (both_go {s = d} (same, sound)) c e = let one : d ≡ c = cc in subst Sound one sound
+  sound_after (both_fail k) c e = cc
+
+  moves_sound : (seed until : ℕ) → until ≤ 2 ^ 48 → (m later : Moment) (notes : List Note) → Sound m.now → next_move g seed until m ≡ Goes notes later → Sound later.now
+  moves_sound seed until early m later notes sound goes =
+      let (n, by) = move-by g seed until m notes later goes in
+      let (fit, fits) = next_among-every Fits (λ e. true) m.now.pending sound.pending n by.due in
+      sound_after (occurs seed n (le_trans by.soon early) fit fits m.now.state m.now.taken sound.inside) later.now (faulted-ok n.entry.time _ later.now by.steps)
+
+  pub stays_inside : (seed until : ℕ) → until ≤ 2 ^ 48 → (n : ℕ) (starts : List ℤ) (r : Reached Moment) → reached_from g seed until n (start g starts) ≡ Some r → Inside r.moment.now.state
+  stays_inside seed until early n starts r there =
+      (reached-keeps (next_move g seed until) (λ k m. Sound m.now) (λ k m later notes sound goes. moves_sound seed until early m later notes sound goes) n 0 (start g starts) r (begins_sound starts) there).inside
 
   -- ---- what is seen
 

@@ -1,12 +1,14 @@
 //! The laws of narrower ranges. The functions do nothing: what they ensure holds of all models.
 
-ghost use Rattle.std.specs.Prelude.{◌≡◌, ℕ, ◌≤◌, ◌^◌, ℤ, ◌≤ℤ◌, ◌<ℤ◌, IsTrue, true, List, length, Ok};
+ghost use Rattle.std.specs.Prelude.{◌≡◌, ℕ, ◌≤◌, ◌^◌, ℤ, ◌≤ℤ◌, ◌<ℤ◌, IsTrue, true, List, length, Some, Ok};
 ghost use Rattle.std.specs.List.{AllByRecursion};
 ghost use Rattle.sig_base.specs.declared.limits.TheConstants.{TEXT_MAX};
 ghost use Rattle.model_core.specs.declared.model.Kind.{Kind};
 ghost use Rattle.model_core.specs.EventGraph.{EventGraph, Expression, Operator};
 ghost use Rattle.model_core.specs.Run.State.{State, in_range};
 ghost use Rattle.model_core.specs.Run.Value.{value_of};
+ghost use Rattle.model_core.specs.Run.Machine.{Reached};
+ghost use Rattle.model_core.specs.Run.History.{Moment, start, reached_from};
 ghost use Rattle.model_core.specs.Run.Same.{Same};
 ghost use Rattle.model_core.specs.Text.Canonical.{canonical};
 ghost use Rattle.model_core.specs.Static.HasKind.{HasKind};
@@ -94,5 +96,22 @@ pub fn narrowed_models_mean_the_same()
     ensures determined { (g h k : EventGraph) → IsNarrowed g h → IsNarrowed g k → h ≡ k }
 {
     narrowing_keeps_the_meaning();
+    rounds_end_with_inductive_ranges();
+}
+
+/// No run of a valid model leaves inductive ranges, nor the ranges of the narrowed model: at each moment that it reaches by a
+/// stop time of at most 2^48, after any number of steps, each value lies in its variable's range.
+pub fn no_run_leaves_the_ranges()
+    ensures inductive { (g : EventGraph) (ranges : List VarRange) (seed until n : ℕ)
+        (starts : List ℤ) (r : Reached Moment) → IsValid g → Fitting g ranges
+        → Inductive g ranges → until ≤ 2 ^ 48
+        → reached_from g seed until n (start g starts) ≡ Some r
+        → IsTrue (in_range (model_with_ranges g ranges) r.moment.now.state) }
+    ensures narrowed { (g h : EventGraph) (seed until n : ℕ) (starts : List ℤ)
+        (r : Reached Moment) → IsValid g → IsNarrowed g h → until ≤ 2 ^ 48
+        → reached_from g seed until n (start g starts) ≡ Some r
+        → IsTrue (in_range h r.moment.now.state) }
+{
+    validity_is_by_parts();
     rounds_end_with_inductive_ranges();
 }

@@ -25,7 +25,7 @@ mod rounds;
 pub use checking::check_ranges;
 pub use inferring::infer;
 pub use law::{
-    narrowed_models_mean_the_same, narrowing_keeps_the_meaning, rounds_end_with_inductive_ranges,
+    narrowed_models_mean_the_same, narrowing_keeps_the_meaning, no_run_leaves_the_ranges, rounds_end_with_inductive_ranges,
     values_lie_in_bounds_under_ranges, what_is_left_is_the_least,
 };
 pub use model_core::{Incoming, VarRange};
