@@ -25,8 +25,8 @@ mod rounds;
 pub use checking::check_ranges;
 pub use inferring::infer;
 pub use law::{
-    narrowed_models_mean_the_same, narrowing_keeps_the_meaning, no_run_leaves_the_ranges, rounds_end_with_inductive_ranges,
-    values_lie_in_bounds_under_ranges, what_is_left_is_the_least,
+    narrowed_models_mean_the_same, narrowing_keeps_the_meaning, no_run_leaves_the_ranges,
+    rounds_end_with_inductive_ranges, values_lie_in_bounds_under_ranges, what_is_left_is_the_least,
 };
 pub use model_core::{Incoming, VarRange};
 pub use narrowing::{narrow, narrow_to_needed};
