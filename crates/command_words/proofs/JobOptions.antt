@@ -179,7 +179,7 @@ abbrev vertices : LawfulOptions ℕ (IsFrom 1 VERTICES_MADE_MAX)
 vertices = lawful_number (codes "vertices") 1 VERTICES_MADE_MAX refl
 
 abbrev room : LawfulOptions ℕ (IsFrom 0 ROOM_MAX)
-room = lawful_usual (codes "room") ROOM_USUAL _ _ refl (λ values. besides_lies ROOM_USUAL ROOM_MAX values (omega arith))
+room = lawful_usual (codes "room") ROOM_USUAL _ _ refl (λ values. besides_lies 0 ROOM_USUAL ROOM_MAX values (omega arith, omega arith))
 
 anything : {A : Type 0} (o : Option A) → IfSome o (λ a. Unit {0})
 anything (Some a) = tt
@@ -187,6 +187,9 @@ anything None = tt
 
 abbrev start : LawfulOptions (List ℤ) (λ starts. Unit {0})
 start = lawful_usual (codes "start") [] starting_values _ refl (λ values. anything _)
+
+abbrev stride : LawfulOptions ℕ (IsFrom 1 (2 ^ 64 - 1))
+stride = lawful_usual (codes "stride") 1 _ _ refl (λ values. besides_lies 1 1 (2 ^ 64 - 1) values (omega arith, omega arith))
 
 -- what a job asks for keeps its limits
 abbrev pub Keeps : Job → Type 0
@@ -200,7 +203,7 @@ abbrev run : LawfulOptions Job Keeps
 run = option_after room (option_after start (option_after events (option_after seed (option_after until (lawful_without _ jobs.Run (λ _ soon _ _ _ within_budget _ _ _ _. (soon.1, within_budget.1)))))))
 
 abbrev replicate : LawfulOptions Job Keeps
-replicate = option_after start (option_after runs (option_after events (option_after seed (option_after until (lawful_without _ jobs.Replicate (λ _ soon _ _ _ within_budget _ many _ _. (soon.1, within_budget.1, many.0, many.1)))))))
+replicate = option_after stride (option_after start (option_after runs (option_after events (option_after seed (option_after until (lawful_without _ jobs.Replicate (λ _ soon _ _ _ within_budget _ many _ _ _ apart. (soon.1, within_budget.1, many.0, many.1, apart.0, omega (arith, apart.1)))))))))
 
 abbrev save : LawfulOptions Job Keeps
 save = option_after start (option_after events (option_after seed (option_after until (lawful_without _ jobs.Save (λ _ soon seed wide _ within_budget _ _. (soon.1, omega (arith, wide.1), within_budget.1))))))

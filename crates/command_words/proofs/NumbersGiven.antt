@@ -28,7 +28,7 @@ needed_lies lowest highest [] = tt
 needed_lies lowest highest (value ∷ []) = number_lies lowest highest value
 needed_lies lowest highest (value ∷ other ∷ values) = tt
 
-pub besides_lies : (usual highest : ℕ) (values : List (List ℕ)) → usual ≤ highest → Lies 0 highest (besides usual (number_within 0 highest) values)
-besides_lies usual highest [] below = (omega arith, below)
-besides_lies usual highest (value ∷ []) below = number_lies 0 highest value
-besides_lies usual highest (value ∷ other ∷ values) below = tt
+pub besides_lies : (lowest usual highest : ℕ) (values : List (List ℕ)) → IsFrom lowest highest usual → Lies lowest highest (besides usual (number_within lowest highest) values)
+besides_lies lowest usual highest [] between = between
+besides_lies lowest usual highest (value ∷ []) between = number_lies lowest highest value
+besides_lies lowest usual highest (value ∷ other ∷ values) between = tt

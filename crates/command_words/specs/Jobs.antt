@@ -64,6 +64,10 @@ vertices_option = number_option (codes "vertices") 1 VERTICES_MADE_MAX
 abbrev pub start_option : OptionsFor (List ℤ)
 start_option = usual_option (codes "start") [] starting_values
 
+-- how far the seed of each run is from that of the run before
+abbrev pub stride_option : OptionsFor ℕ
+stride_option = usual_option (codes "stride") 1 (number_within 1 (2 ^ 64 - 1))
+
 -- the pending events for which a run has room
 abbrev pub room_option : OptionsFor ℕ
 room_option = usual_option (codes "room") ROOM_USUAL (number_within 0 ROOM_MAX)
@@ -83,7 +87,7 @@ commands =
     ∷ (codes "narrow", no_options jobs.Narrow)
     ∷ (codes "describe", no_options jobs.Describe)
     ∷ (codes "run", no_options jobs.Run ⊛ until_option ⊛ seed_option ⊛ events_option ⊛ start_option ⊛ room_option)
-    ∷ (codes "replicate", no_options jobs.Replicate ⊛ until_option ⊛ seed_option ⊛ events_option ⊛ runs_option ⊛ start_option)
+    ∷ (codes "replicate", no_options jobs.Replicate ⊛ until_option ⊛ seed_option ⊛ events_option ⊛ runs_option ⊛ start_option ⊛ stride_option)
     ∷ (codes "save", no_options jobs.Save ⊛ until_option ⊛ seed_option ⊛ events_option ⊛ start_option)
     ∷ (codes "resume", no_options jobs.Resume ⊛ until_option ⊛ events_option ⊛ room_option)
     ∷ (codes "trial", no_options jobs.Trial ⊛ seed_option ⊛ vertices_option ⊛ until_option ⊛ events_option)

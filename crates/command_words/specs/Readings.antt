@@ -23,8 +23,8 @@ reading_of jobs.Narrow = readings.Model models.Narrow
 reading_of jobs.Describe = readings.Model models.Describe
 reading_of (jobs.Run until seed events starts room) =
     readings.Model (models.Run (record { until = until; seed = seed; events = events; starts = starts; room = room }))
-reading_of (jobs.Replicate until seed events runs starts) =
-    readings.Model (models.Replicate (record { until = until; seed = seed; events = events; runs = runs; starts = starts }))
+reading_of (jobs.Replicate until seed events runs starts stride) =
+    readings.Model (models.Replicate (record { until = until; seed = seed; events = events; runs = runs; starts = starts; stride = stride }))
 reading_of (jobs.Save until seed events starts) = readings.Model (models.Save (record { until = until; seed = seed; events = events; starts = starts }))
 reading_of (jobs.Resume until events room) = readings.Saved (saved_jobs.Resume (record { until = until; events = events; room = room }))
 reading_of (jobs.Trial seed vertices until events) = readings.Nothing (bare.Trial (record { seed = seed; vertices = vertices; until = until; events = events }))

@@ -15,7 +15,7 @@ pub(crate) fn option_names() -> &'static [&'static str]
     ensures { map (λ name. name.now) result.now ≡ option_names }
 {
     &[
-        "until", "seed", "events", "start", "room", "runs", "vertices",
+        "until", "seed", "events", "start", "room", "runs", "stride", "vertices",
     ]
 }
 

@@ -11,7 +11,7 @@ ghost use Rattle.command_words.specs.Inner.ClapCommand.{has_one_dash, rows_in};
 ghost use Rattle.command_words.specs.Inner.MatchedJobs.{asked_by, has_only, may_be_given, matched_job, matched_values};
 ghost use Rattle.command_words.specs.Readings.{reading_of};
 ghost use Rattle.command_words.specs.KeptLimits.{KeepsLimits};
-ghost use Rattle.command_words.specs.Jobs.{no_options, options_of, job_of, until_option, seed_option, events_option, start_option, room_option};
+ghost use Rattle.command_words.specs.Jobs.{no_options, options_of, job_of, until_option, seed_option, events_option, start_option, stride_option, room_option};
 
 use crate::argument_values::{number_within, starting_values};
 use crate::clap_matches::{matched, option_names, text_of, with_program};
@@ -134,6 +134,16 @@ fn starts_of(alloc: Global, matches: &ArgMatches<'_>) -> Result<List<i64>, Words
     }
 }
 
+/// How far the seed of each run of `replicate` is from that of the run before.
+fn stride_of(matches: &ArgMatches<'_>) -> Result<u64, WordsError>
+    ensures { Asked (stride_option.gives (matched_values (rows_in matches.now))) result }
+{
+    match text_of(matches, "stride") {
+        Some(value) => number_within(1, u64::MAX, value).ok_or(WordsError::BadWords),
+        None => Ok(1),
+    }
+}
+
 /// A job that takes no option.
 fn alone(matches: &ArgMatches<'_>, job: Job) -> Result<Job, WordsError>
     ensures { Asked (asked_by (Some (no_options job)) (rows_in matches.now)) result }
@@ -169,7 +179,10 @@ fn run_of(alloc: Global, matches: &ArgMatches<'_>) -> Result<Job, WordsError>
 fn replicate_of(alloc: Global, matches: &ArgMatches<'_>) -> Result<Job, WordsError>
     ensures { Asked (asked_by (options_of (codes "replicate")) (rows_in matches.now)) result }
 {
-    if !has_only(&[b"until", b"seed", b"events", b"runs", b"start"], matches) {
+    if !has_only(
+        &[b"until", b"seed", b"events", b"runs", b"start", b"stride"],
+        matches,
+    ) {
         return Err(WordsError::BadWords);
     }
     let until = until_of(matches)?;
@@ -177,12 +190,14 @@ fn replicate_of(alloc: Global, matches: &ArgMatches<'_>) -> Result<Job, WordsErr
     let events = events_of(matches)?;
     let runs = needed_number(matches, "runs", 1, RUNS_MAX)?;
     let starts = starts_of(alloc, matches)?;
+    let stride = stride_of(matches)?;
     Ok(Job::Replicate {
         until,
         seed,
         events,
         runs,
         starts,
+        stride,
     })
 }
 

@@ -49,7 +49,7 @@ pub enum Job {
     Replicate {
         /// The stop time of each run, in ticks.
         until: u64,
-        /// The seed of the first run's random streams. Each further run has the next number.
+        /// The seed of the first run's random streams.
         seed: u64,
         /// The event budget of each run: the most steps that are made.
         events: u64,
@@ -57,6 +57,8 @@ pub enum Job {
         runs: u64,
         /// A value for each parameter of the vertex that begins the run, in order.
         starts: List<i64>,
+        /// How far the seed of each further run is from that of the run before. After 2^64 - 1 seeds begin again at 0.
+        stride: u64,
     },
     /// A run of the model, stopped while it goes on, as text from which it can go on.
     Save {
@@ -125,12 +127,14 @@ impl Job {
                 events,
                 runs,
                 starts,
+                stride,
             } => Reading::Model(ModelJob::Replicate(ReplicateOptions {
                 until,
                 seed,
                 events,
                 runs,
                 starts,
+                stride,
             })),
             Job::Save {
                 until,

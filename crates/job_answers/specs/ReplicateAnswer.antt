@@ -1,5 +1,5 @@
 -- What `replicate` answers for a model: the report of its runs, or why the starting values aren't taken.
-use Rattle.std.specs.Prelude.{ℕ, ◌+◌, ◌-◌, ◌%◌, ◌^◌, List, ◌++◌, map}
+use Rattle.std.specs.Prelude.{ℕ, ◌+◌, ◌-◌, ◌*◌, ◌%◌, ◌^◌, List, ◌++◌, map}
 use Rattle.std.specs.List.{flat_map, range_with_len}
 use Rattle.command_words.specs.declared.replicate_options.ReplicateOptions.{ReplicateOptions}
 use Rattle.model_core.specs.EventGraph.{EventGraph}
@@ -13,17 +13,18 @@ use Rattle.answer_delivery.specs.AnswerForms.{done}
 use Rattle.job_answers.specs.RunAnswer.{refused_or}
 use Rattle.job_answers.specs.StartingValues.{start_refusal}
 
--- the seed of the run of a number, from 1: the seeds of 64 bits, one after the other, begin again after the last one
-abbrev pub seed_of_run : ℕ → ℕ → ℕ
-seed_of_run seed number = (seed + (number - 1)) % 2 ^ 64
+-- the seed of the run of a number, from 1: seeds of 64 bits, of which each is a stride after the one before. They begin again at 0
+-- after the last one
+abbrev pub seed_of_run : ℕ → ℕ → ℕ → ℕ
+seed_of_run seed stride number = (seed + (number - 1) * stride) % 2 ^ 64
 
 -- the tally of the run of a number
 abbrev pub tally_numbered : EventGraph → ReplicateOptions → ℕ → RunTally
-tally_numbered g o number = tally_of g o.until (look g (seed_of_run o.seed number) o.starts o.until o.events)
+tally_numbered g o number = tally_of g o.until (look g (seed_of_run o.seed o.stride number) o.starts o.until o.events)
 
 -- its rows
 abbrev pub rows_numbered : EventGraph → ReplicateOptions → ℕ → List ℕ
-rows_numbered g o number = run_rows g number (seed_of_run o.seed number) (tally_numbered g o number)
+rows_numbered g o number = run_rows g number (seed_of_run o.seed o.stride number) (tally_numbered g o number)
 
 -- the rows of each run, and those of the totals of all of them
 abbrev pub report_rows : EventGraph → ReplicateOptions → List ℕ

@@ -1,9 +1,14 @@
--- Options of runs that are saved, and saved runs that are to go on.
-use Rattle.std.specs.Prelude.{ℕ, ℤ, List, replicate}
+-- Options of many runs and of runs that are saved, and saved runs that are to go on.
+use Rattle.std.specs.Prelude.{ℕ, ℤ, List, [], replicate}
+use Rattle.command_words.specs.declared.replicate_options.ReplicateOptions.{ReplicateOptions}
 use Rattle.command_words.specs.declared.resume_options.ResumeOptions.{ResumeOptions}
 use Rattle.command_words.specs.declared.save_options.SaveOptions.{SaveOptions}
 use Rattle.model_core.specs.Saved.SavedRun.{SavedRun}
 use Rattle.worked_runs.specs.SavedExamples.{due, saved_clock}
+
+-- up to 12, so many runs from this seed on, this stride apart
+abbrev pub replicating : ℕ → ℕ → ℕ → ReplicateOptions
+replicating seed runs stride = record { until = 12; seed = seed; events = 100; runs = runs; starts = []; stride = stride }
 
 abbrev pub saving : ℕ → ℕ → ℕ → List ℤ → SaveOptions
 saving until seed events starts = record { until = until; seed = seed; events = events; starts = starts }

@@ -27,8 +27,9 @@ a_run until seed events starts room = Some (jobs.Run until seed events starts ro
 abbrev pub of_run : ℕ → ℕ → Reading
 of_run until events = readings.Model (models.Run (record { until = until; seed = 18446744073709551616; events = events; starts = []; room = 4194305 }))
 
-abbrev pub of_replicate : ℕ → ℕ → ℕ → Reading
-of_replicate until events runs = readings.Model (models.Replicate (record { until = until; seed = 18446744073709551616; events = events; runs = runs; starts = [] }))
+abbrev pub of_replicate : ℕ → ℕ → ℕ → ℕ → Reading
+of_replicate until events runs stride =
+    readings.Model (models.Replicate (record { until = until; seed = 18446744073709551616; events = events; runs = runs; starts = []; stride = stride }))
 
 abbrev pub of_save : ℕ → ℕ → ℕ → Reading
 of_save until seed events = readings.Model (models.Save (record { until = until; seed = seed; events = events; starts = [] }))

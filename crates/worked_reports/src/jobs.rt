@@ -37,6 +37,7 @@ pub fn plain_commands_are_jobs()
     ensures fuse_with_an_option { asked (codes "fuse --room=1") ≡ None }
     ensures narrow_with_an_option { asked (codes "narrow --room=1") ≡ None }
     ensures describe_with_an_option { asked (codes "describe --room=1") ≡ None }
+    ensures no_stride { asked (codes "check --stride=1") ≡ None }
 {}
 
 /// There is exactly one word that is to be the command, and it is one of fourteen.
@@ -86,16 +87,17 @@ pub fn runs_are_asked_for()
         ≡ None }
     ensures no_runs { asked (codes "run --until=1 --seed=2 --events=3 --runs=1") ≡ None }
     ensures no_vertices { asked (codes "run --until=1 --seed=2 --events=3 --vertices=1") ≡ None }
+    ensures no_stride { asked (codes "run --until=1 --seed=2 --events=3 --stride=1") ≡ None }
 {}
 
 /// `replicate` needs how many runs there are besides, and has no room.
 pub fn replications_are_asked_for()
     ensures usual { asked (codes "replicate --until=1 --seed=2 --events=3 --runs=4")
-        ≡ Some (jobs.Replicate 1 2 3 4 []) }
+        ≡ Some (jobs.Replicate 1 2 3 4 [] 1) }
     ensures least { asked (codes "replicate --until=0 --seed=0 --events=1 --runs=1")
-        ≡ Some (jobs.Replicate 0 0 1 1 []) }
+        ≡ Some (jobs.Replicate 0 0 1 1 [] 1) }
     ensures greatest { asked
-        (codes "replicate --until=281474976710656 --seed=18446744073709551615 --events=1099511627776 --runs=65536") ≡ Some (jobs.Replicate 281474976710656 18446744073709551615 1099511627776 65536 []) }
+        (codes "replicate --until=281474976710656 --seed=18446744073709551615 --events=1099511627776 --runs=65536") ≡ Some (jobs.Replicate 281474976710656 18446744073709551615 1099511627776 65536 [] 1) }
     ensures until_above { asked
         (codes "replicate --until=281474976710657 --seed=2 --events=3 --runs=4") ≡ None }
     ensures no_until { asked (codes "replicate --seed=2 --events=3 --runs=4") ≡ None }
@@ -119,7 +121,7 @@ pub fn replications_are_asked_for()
     ensures runs_twice { asked (codes "replicate --until=1 --seed=2 --events=3 --runs=4 --runs=1")
         ≡ None }
     ensures starts { asked (codes "replicate --until=1 --seed=2 --events=3 --runs=4 --start=-5,6")
-        ≡ Some (jobs.Replicate 1 2 3 4 (neg_ℤ (pos 5) ∷ pos 6 ∷ [])) }
+        ≡ Some (jobs.Replicate 1 2 3 4 (neg_ℤ (pos 5) ∷ pos 6 ∷ []) 1) }
     ensures bad_starts { asked (codes "replicate --until=1 --seed=2 --events=3 --runs=4 --start=")
         ≡ None }
     ensures starts_twice { asked
@@ -128,6 +130,34 @@ pub fn replications_are_asked_for()
         ≡ None }
     ensures no_vertices { asked
         (codes "replicate --until=1 --seed=2 --events=3 --runs=4 --vertices=1") ≡ None }
+{}
+
+/// `replicate` may have a stride, which is 1 else: from 1 to 2^64 - 1, and given once.
+pub fn strides_are_asked_for()
+    ensures usual { asked (codes "replicate --until=1 --seed=2 --events=3 --runs=4")
+        ≡ asked (codes "replicate --until=1 --seed=2 --events=3 --runs=4 --stride=1") }
+    ensures least { asked (codes "replicate --until=1 --seed=2 --events=3 --runs=4 --stride=1")
+        ≡ Some (jobs.Replicate 1 2 3 4 [] 1) }
+    ensures five { asked (codes "replicate --until=1 --seed=2 --events=3 --runs=4 --stride=5")
+        ≡ Some (jobs.Replicate 1 2 3 4 [] 5) }
+    ensures greatest { asked
+        (codes "replicate --until=1 --seed=2 --events=3 --runs=4 --stride=18446744073709551615")
+        ≡ Some (jobs.Replicate 1 2 3 4 [] 18446744073709551615) }
+    ensures first { asked
+        (codes "--stride 05 --start=-5,6 --runs=4 --seed=2 --until=1 --events=3 replicate")
+        ≡ Some (jobs.Replicate 1 2 3 4 (neg_ℤ (pos 5) ∷ pos 6 ∷ []) 5) }
+    ensures below { asked (codes "replicate --until=1 --seed=2 --events=3 --runs=4 --stride=0")
+        ≡ None }
+    ensures above { asked
+        (codes "replicate --until=1 --seed=2 --events=3 --runs=4 --stride=18446744073709551616")
+        ≡ None }
+    ensures negative { asked (codes "replicate --until=1 --seed=2 --events=3 --runs=4 --stride=-1")
+        ≡ None }
+    ensures empty { asked (codes "replicate --until=1 --seed=2 --events=3 --runs=4 --stride=")
+        ≡ None }
+    ensures twice { asked
+        (codes "replicate --until=1 --seed=2 --events=3 --runs=4 --stride=1 --stride=1") ≡ None }
+    ensures alone { asked (codes "replicate --stride=5") ≡ None }
 {}
 
 /// `save` needs its stop time, seed and events, and may have starting values.
@@ -156,6 +186,7 @@ pub fn saved_runs_are_asked_for()
     ensures no_room { asked (codes "save --until=1 --seed=2 --events=3 --room=1") ≡ None }
     ensures no_runs { asked (codes "save --until=1 --seed=2 --events=3 --runs=1") ≡ None }
     ensures no_vertices { asked (codes "save --until=1 --seed=2 --events=3 --vertices=1") ≡ None }
+    ensures no_stride { asked (codes "save --until=1 --seed=2 --events=3 --stride=1") ≡ None }
 {}
 
 /// `resume` needs its stop time and event budget, and may have room. One event is the least.
@@ -178,6 +209,7 @@ pub fn resumed_runs_are_asked_for()
     ensures room_twice { asked (codes "resume --until=1 --events=3 --room=1 --room=1") ≡ None }
     ensures no_runs { asked (codes "resume --until=1 --events=3 --runs=1") ≡ None }
     ensures no_vertices { asked (codes "resume --until=1 --events=3 --vertices=1") ≡ None }
+    ensures no_stride { asked (codes "resume --until=1 --events=3 --stride=1") ≡ None }
     ensures never_a_seed { asked (codes "resume --until=1 --events=3 --seed=1") ≡ None }
 {}
 
@@ -218,6 +250,8 @@ pub fn trials_are_asked_for()
         ≡ None }
     ensures no_runs { asked (codes "trial --until=1 --seed=2 --events=3 --vertices=4 --runs=1")
         ≡ None }
+    ensures no_stride { asked
+        (codes "trial --until=1 --seed=2 --events=3 --vertices=4 --stride=1") ≡ None }
 {}
 
 /// An option is one word or two, and words come in any order.
@@ -240,10 +274,10 @@ pub fn words_come_in_any_order()
         (codes "--vertices=500 trial --seed 18446744073709551615 --events=100 --until=20")
         ≡ Some (jobs.Trial 18446744073709551615 500 20 100) }
     ensures replications { asked (codes "replicate --until 12 --seed 1 --events 100 --runs 2")
-        ≡ Some (jobs.Replicate 12 1 100 2 []) }
+        ≡ Some (jobs.Replicate 12 1 100 2 [] 1) }
     ensures replications_in_between { asked
         (codes "--runs=65536 replicate --seed 18446744073709551615 --events=100 --until=12 --start=-3,0")
-        ≡ Some (jobs.Replicate 12 18446744073709551615 100 65536 (neg_ℤ (pos 3) ∷ pos 0 ∷ [])) }
+        ≡ Some (jobs.Replicate 12 18446744073709551615 100 65536 (neg_ℤ (pos 3) ∷ pos 0 ∷ []) 1) }
     ensures saved { asked (codes "save --until 12 --seed 1 --events 2")
         ≡ Some (jobs.Save 12 1 2 []) }
     ensures saved_last { asked (codes "--start=-3,0 --seed=0 --until=12 --events=2 save")
@@ -262,7 +296,7 @@ pub fn numbers_may_begin_with_zeros()
     ensures trial { asked (codes "--vertices 01 --seed=0 --events 0100 --until 20 -- trial")
         ≡ Some (jobs.Trial 0 1 20 100) }
     ensures replications { asked (codes "--runs 01 --seed=0 --events 0100 --until 12 -- replicate")
-        ≡ Some (jobs.Replicate 12 0 100 1 []) }
+        ≡ Some (jobs.Replicate 12 0 100 1 [] 1) }
     ensures one_start { asked (codes "run --until=12 --seed=42 --events=1000 --start 5")
         ≡ a_run 12 42 1000 (pos 5 ∷ []) 4096 }
     ensures start_with_a_sign { asked (codes "run --until=12 --seed=42 --events=1000 --start=-5")

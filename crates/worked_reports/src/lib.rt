@@ -12,6 +12,7 @@ mod part_complaints;
 mod readings;
 mod reports;
 mod saved_answers;
+mod seeds;
 mod statuses;
 mod tallies;
 mod totals;
@@ -26,7 +27,8 @@ pub use descriptions::models_are_described;
 pub use jobs::{
     limits_of_jobs_have_these_numbers, numbers_may_begin_with_zeros, other_words_are_no_job,
     plain_commands_are_jobs, replications_are_asked_for, resumed_runs_are_asked_for,
-    runs_are_asked_for, saved_runs_are_asked_for, trials_are_asked_for, words_come_in_any_order,
+    runs_are_asked_for, saved_runs_are_asked_for, strides_are_asked_for, trials_are_asked_for,
+    words_come_in_any_order,
 };
 pub use made_models::{numbers_make_models, vertices_have_forms, words_make_vertices};
 pub use part_complaints::{
@@ -38,6 +40,7 @@ pub use saved_answers::{
     resuming_is_answered, runs_are_answered, runs_are_saved_while_they_go_on,
     saved_runs_have_room_for_themselves, starting_values_are_judged,
 };
+pub use seeds::{reports_have_seeds, seeds_are_a_stride_apart};
 pub use statuses::{ends_have_statuses, failures_have_lines, statuses_have_numbers};
 pub use tallies::{
     cells_have_courses, courses_have_areas, courses_have_spans, items_are_those_watched,

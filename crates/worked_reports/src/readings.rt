@@ -26,10 +26,10 @@ pub fn jobs_read_so()
     ensures run { reading_of (jobs.Run 1 2 3 (pos 4 ∷ []) 5)
         ≡ readings.Model
         (models.Run (record { until = 1; seed = 2; events = 3; starts = pos 4 ∷ []; room = 5 })) }
-    ensures replicate { reading_of (jobs.Replicate 1 2 3 4 (pos 5 ∷ []))
+    ensures replicate { reading_of (jobs.Replicate 1 2 3 4 (pos 5 ∷ []) 6)
         ≡ readings.Model
         (models.Replicate
-        (record { until = 1; seed = 2; events = 3; runs = 4; starts = pos 5 ∷ [] })) }
+        (record { until = 1; seed = 2; events = 3; runs = 4; starts = pos 5 ∷ []; stride = 6 })) }
     ensures save { reading_of (jobs.Save 1 2 3 (pos 4 ∷ []))
         ≡ readings.Model
         (models.Save (record { until = 1; seed = 2; events = 3; starts = pos 4 ∷ [] })) }
@@ -54,12 +54,14 @@ pub fn options_keep_limits()
     ensures run { KeepsLimits (of_run 281474976710656 1099511627776) }
     ensures run_too_long { KeepsLimits (of_run 281474976710657 1) → ⊥ }
     ensures run_too_many { KeepsLimits (of_run 0 1099511627777) → ⊥ }
-    ensures replicate { KeepsLimits (of_replicate 281474976710656 1099511627776 65536) }
-    ensures one_run { KeepsLimits (of_replicate 0 0 1) }
-    ensures replicate_too_long { KeepsLimits (of_replicate 281474976710657 1 1) → ⊥ }
-    ensures replicate_too_many { KeepsLimits (of_replicate 0 1099511627777 1) → ⊥ }
-    ensures no_run { KeepsLimits (of_replicate 0 1 0) → ⊥ }
-    ensures too_many_runs { KeepsLimits (of_replicate 0 1 65537) → ⊥ }
+    ensures replicate { KeepsLimits (of_replicate 281474976710656 1099511627776 65536 1) }
+    ensures one_run { KeepsLimits (of_replicate 0 0 1 18446744073709551615) }
+    ensures replicate_too_long { KeepsLimits (of_replicate 281474976710657 1 1 1) → ⊥ }
+    ensures replicate_too_many { KeepsLimits (of_replicate 0 1099511627777 1 1) → ⊥ }
+    ensures no_run { KeepsLimits (of_replicate 0 1 0 1) → ⊥ }
+    ensures too_many_runs { KeepsLimits (of_replicate 0 1 65537 1) → ⊥ }
+    ensures no_stride { KeepsLimits (of_replicate 0 1 1 0) → ⊥ }
+    ensures stride_too_large { KeepsLimits (of_replicate 0 1 1 18446744073709551616) → ⊥ }
     ensures save { KeepsLimits (of_save 281474976710656 18446744073709551615 1099511627776) }
     ensures save_too_long { KeepsLimits (of_save 281474976710657 0 1) → ⊥ }
     ensures save_too_many { KeepsLimits (of_save 0 0 1099511627777) → ⊥ }

@@ -7,7 +7,7 @@ use Rattle.clap.specs.declared.parser.matches.ArgMatches.{ArgMatches}
 
 -- the names of all options, of whichever command
 abbrev pub option_names : List Text
-option_names = codes "until" ∷ codes "seed" ∷ codes "events" ∷ codes "start" ∷ codes "room" ∷ codes "runs" ∷ codes "vertices" ∷ []
+option_names = codes "until" ∷ codes "seed" ∷ codes "events" ∷ codes "start" ∷ codes "room" ∷ codes "runs" ∷ codes "stride" ∷ codes "vertices" ∷ []
 
 -- an option that takes one text
 abbrev pub option : Text → Rule

@@ -67,7 +67,7 @@ module _ (g : EventGraph) (options : ReplicateOptions) where
       subst (λ (n : ℕ). IsWrittenUpTo (rest_of_report g options t number n) bytes o m) none h
 
   module _ (t later : RunTotals) (number seed : ℕ) (tally : RunTally) (bytes : List ℕ) (o m p : Outlet) (below : number < options.runs + 1)
-      (seeded : seed ≡ seed_of_run options.seed number) (tallied : tally ≡ tally_numbered g options number) (h : IsWrittenUpTo (Left t number) bytes o m) where
+      (seeded : seed ≡ seed_of_run options.seed options.stride number) (tallied : tally ≡ tally_numbered g options number) (h : IsWrittenUpTo (Left t number) bytes o m) where
     rows_are : run_rows g number seed tally ≡ rows_numbered g options number
     rows_are = ap₂ (λ (n : ℕ) (r : RunTally). run_rows g number n r) seeded tallied
 

@@ -23,11 +23,11 @@ use std::alloc::Global;
 use tally_report::{RunTally, Totals, header_csv, run_csv, tally_run, totals_csv};
 
 /// The seed of the run of a number, from 1.
-fn seed_of_run(seed: u64, number: u64) -> u64
+fn seed_of_run(seed: u64, stride: u64, number: u64) -> u64
     requires { 0 < number }
-    ensures { result ≡ seed_of_run seed number }
+    ensures { result ≡ seed_of_run seed stride number }
 {
-    seed.wrapping_add(number - 1)
+    seed.wrapping_add((number - 1).wrapping_mul(stride))
 }
 
 /// The tally of the run of a number, from 1.
@@ -51,7 +51,7 @@ fn tally_numbered(
     tally_run(
         alloc,
         starts,
-        seed_of_run(options.seed, number),
+        seed_of_run(options.seed, options.stride, number),
         options.until,
         options.events,
     )
@@ -101,7 +101,7 @@ fn write_all_runs<K: Sink>(
     let mut totals = totals;
     for number in 1..options.runs + 1 {
         let tally = tally_numbered(alloc, starts, options, number)?;
-        let seed = seed_of_run(options.seed, number);
+        let seed = seed_of_run(options.seed, options.stride, number);
         write_run_rows(alloc, model, number, seed, &tally, &mut totals, output)?;
     }
     write_all(output, totals_csv(alloc, model, &totals)?.as_slice())

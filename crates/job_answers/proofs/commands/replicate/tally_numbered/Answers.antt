@@ -16,5 +16,5 @@ pub returns-clause-of_run : goal.returns-clause-of_run
 returns-clause-of_run c =
     let g = graph_of c.args.starts.now.model in
     let o = c.args.options.now in
-    subst (λ (values : List ℤ). IfOk c.tally_run.result (λ tally. tally ≡ tally_of g o.until (look g (seed_of_run o.seed c.args.number) values o.until o.events))) c.requires.given
+    subst (λ (values : List ℤ). IfOk c.tally_run.result (λ tally. tally ≡ tally_of g o.until (look g (seed_of_run o.seed o.stride c.args.number) values o.until o.events))) c.requires.given
     (subst (λ (seed : ℕ). IfOk c.tally_run.result (λ tally. tally ≡ tally_of g o.until (look g seed c.args.starts.now.values o.until o.events))) c.seed_of_run.ensures c.tally_run.ensures.tally)
