@@ -26,7 +26,7 @@ _sigma() {
         '') options=$commands ;;
         # share/make writes from share/commands: options of each command in bash
         run) options='--until --seed --events --start --room' ;;
-        replicate) options='--until --seed --events --runs --start' ;;
+        replicate) options='--until --seed --events --runs --start --stride' ;;
         save) options='--until --seed --events --start' ;;
         resume) options='--until --events --room' ;;
         trial) options='--seed --vertices --until --events' ;;

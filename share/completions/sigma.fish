@@ -36,6 +36,7 @@ complete -c sigma -n '__sigma_option seed run replicate save trial' -l seed -x -
 complete -c sigma -n '__sigma_option vertices trial' -l vertices -x -d 'How many vertices the model has'
 complete -c sigma -n '__sigma_option events run replicate save resume trial' -l events -x -d 'The most events that are made'
 complete -c sigma -n '__sigma_option runs replicate' -l runs -x -d 'How many runs are made'
+complete -c sigma -n '__sigma_option stride replicate' -l stride -x -d 'From one run's seed to the next, else 1'
 complete -c sigma -n '__sigma_option start run replicate save' -l start -x -d 'As --start=-3,4'
 complete -c sigma -n '__sigma_option room run resume' -l room -x -d 'Pending events with room, else 4096'
 # By hand.
