@@ -1,3 +1,4 @@
 pub mod WordsCut
 pub mod SeenEnds
 pub mod CallLaws
+pub mod RoomsFilled

@@ -1,5 +1,5 @@
 -- What a call over bytes in memory did.
-use Rattle.std.specs.Prelude.{◌≡◌, ◌≤◌, ◌⊎◌, ℕ, false, List, [], Some, length, take, All, IsUtf8}
+use Rattle.std.specs.Prelude.{◌≡◌, ◌<◌, ◌≤◌, ◌⊎◌, ℕ, false, List, [], Some, length, take, All, IsUtf8}
 use Rattle.sig_base.specs.Sink.{Outlet}
 use Rattle.sig_base.specs.Source.{Inlet}
 use Rattle.answer_delivery.specs.declared.status.Status.{Status}
@@ -19,14 +19,23 @@ inlet_of bytes = record { left = Some bytes; faults = 0 }
 abbrev pub outlet_of : List ℕ → Outlet
 outlet_of bytes = record { written = Some bytes; faults = 0; settled = false }
 
--- With these words and this input, a call wrote this output and this error output, both from nothing, and ended with this
--- status.
-pub record EndsOverBytes (words : List (List ℕ)) (input output errors : List ℕ) (status : Status) : Type 0 where
+-- a write failed only if these bytes fill a room of this size
+abbrev pub FailsOnlyIfFull : ℕ → List ℕ → ℕ → Type 0
+FailsOnlyIfFull faults bytes size = 0 < faults → length bytes ≡ size
+
+-- With these words and this input, a call wrote this output and this error output, both from nothing and into rooms of these
+-- sizes, and ended with this status.
+pub record EndsOverBytes (words : List (List ℕ)) (input : List ℕ) (output_size errors_size : ℕ) (output errors : List ℕ)
+    (status : Status) : Type 0 where
   pub input_after : Inlet
   pub output_after : Outlet
   pub errors_after : Outlet
   pub output_taken : output_after.written ≡ Some output
   pub errors_taken : errors_after.written ≡ Some errors
+  -- no read failed
+  pub input_sure : input_after.faults ≡ 0
+  pub output_sure : FailsOnlyIfFull output_after.faults output output_size
+  pub errors_sure : FailsOnlyIfFull errors_after.faults errors errors_size
   -- what the status means
   pub ends : Ends (λ i. i) (λ o. o) (λ e. e) words
       (inlet_of input) input_after (outlet_of []) output_after (outlet_of []) errors_after status
@@ -42,7 +51,7 @@ pub record LaysAnswer (words : List (List ℕ)) (input : List ℕ) (status : Sta
     (lengths : Lengths) (output_room errors_room : List ℕ) : Type 0 where
   pub output : List ℕ
   pub errors : List ℕ
-  pub ends : EndsOverBytes words input output errors status
+  pub ends : EndsOverBytes words input (length output_room) (length errors_room) output errors status
   pub output_laid : IsLaid output lengths.output output_room
   pub errors_laid : IsLaid errors lengths.errors errors_room
 

@@ -4,8 +4,11 @@
 
 mod memory_call;
 mod page_call;
+mod room_laws;
+mod room_sink;
 mod rooms;
 mod word_list;
 
 pub use page_call::sigma_page;
+pub use room_laws::full_rooms_alone_fail;
 pub use rooms::Lengths;

@@ -10,7 +10,7 @@ use std::alloc::Global;
 ///
 /// In `words` each word is ended by a byte of 0. The output is laid into the room `output`, and the error output into
 /// `errors`; `lengths` says how many bytes each has. The output holds no more than its room: a write beyond it fails, and the
-/// status is then 4. So a caller who finds the room full with status 4 calls again, with a larger one.
+/// status is then 4. Status 4 comes with a full room alone, so a caller who finds it calls again, with a larger one.
 #[unsafe(no_mangle)]
 pub extern "C" fn sigma_page(
     alloc: Global,
@@ -25,8 +25,8 @@ pub extern "C" fn sigma_page(
 {
     match call(alloc, words, input, output.len(), errors.len()) {
         Ok(ended) => {
-            lengths.output = lay(ended.output.written(), output);
-            lengths.errors = lay(ended.errors.written(), errors);
+            lengths.output = lay(ended.output.as_slice(), output);
+            lengths.errors = lay(ended.errors.as_slice(), errors);
             u32::from(ended.status.number())
         }
         Err(failure) => {
