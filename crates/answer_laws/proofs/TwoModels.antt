@@ -1,24 +1,34 @@
 -- From what two calls promise of one text to the two models that their bytes show.
-use Rattle.std.proofs.Common.{◌≡◌, ℕ, List, Option, Some, subst}
-use Rattle.std.specs.Prelude.{IfSome}
+use Rattle.std.proofs.Common.{◌≡◌, ℕ, List, ◌++◌, Option, Some, ap, subst, ◌∙◌}
+use Rattle.std.specs.Prelude.{IfSome, codes}
+use Rattle.std.specs.List.{flat_map}
+use Rattle.std.proofs.lemmas.List.{append_assoc}
 use Rattle.model_core.specs.EventGraph.{EventGraph}
 use Rattle.model_core.specs.Run.Same.{Same}
+use Rattle.model_core.specs.Rules.Certificate.{application_line}
 use Rattle.model_core.specs.Text.Canonical.{canonical}
 use Rattle.job_answers.specs.ReduceAnswer.{KeepsMeaning}
-use Rattle.sigma_top.specs.Promises.{PrintsModel}
+use Rattle.sig_base.specs.Sink.{Outlet}
+use Rattle.sig_base.specs.Source.{Inlet}
+use Rattle.sigma_top.specs.Promises.{PrintsModel, PromisesOf}
 use Rattle.answer_laws.specs.PrintedAndReduced.{ShowTheSame}
 use Rattle.answer_laws.proofs.TextsApart.{ModelFacts, read_has_text}
+
+-- the promises of a call whose words are these
+pub promises_along : (words known : List (List ℕ)) (number : ℕ) (input : Inlet) (before after : Outlet) → words ≡ known
+    → PromisesOf words number input before after → PromisesOf known number input before after
+promises_along words known number input before after is h = subst (λ (w : List (List ℕ)). PromisesOf w number input before after) is h
 
 module _ (facts : ModelFacts) where
   shown : (text a b : List ℕ) → PrintsModel text a → KeepsMeaning text b → ShowTheSame a b
   shown text a b (g, reads, wrote) kept = record {
     original = g;
     smaller = kept.reduces.reduced;
-    applications = kept.reduces.applications;
+    lines = flat_map application_line kept.reduces.applications ++ codes "end\n";
     original_text = read_has_text facts text g reads;
     smaller_text = read_has_text facts (canonical kept.reduces.reduced) kept.reduces.reduced kept.reads_back;
     print_wrote = wrote;
-    reduce_wrote = kept.reduces.written;
+    reduce_wrote = kept.reduces.written ∙ ap (λ (bytes : List ℕ). canonical kept.reduces.reduced ++ bytes) (append_assoc (codes "certificate\n") (flat_map application_line kept.reduces.applications) (codes "end\n"));
     same = subst (λ (k : EventGraph). Same k kept.reduces.reduced) (facts.one_model text kept.original g kept.reads reads) kept.same;
   }
 

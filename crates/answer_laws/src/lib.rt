@@ -8,4 +8,6 @@ mod two_calls;
 
 pub use answer_law::{answers_are_determined, unreadable_texts_are_refused};
 pub use sure_devices::sure_status;
-pub use two_calls::{canonical_texts_determine_models, print_and_reduce};
+pub use two_calls::{
+    canonical_texts_determine_models, print_and_reduce, printed_and_reduced_models_are_the_same,
+};

@@ -22,7 +22,7 @@ use Rattle.job_answers.specs.CertifyAnswer.{Certifies}
 use Rattle.job_answers.specs.ReduceAnswer.{KeepsMeaning}
 use Rattle.job_answers.specs.RewrittenAnswer.{RewritesTheSame}
 use Rattle.job_answers.specs.SavedAndResumed.{SavesTheRun, WritesTheRest}
-use Rattle.answer_delivery.specs.Statuses.{status_of_answer, bytes_of_answer}
+use Rattle.answer_delivery.specs.Statuses.{status_of_answer, bytes_of_answer, exit_status_of}
 use Rattle.sigma_top.specs.StatusTable.{text_of}
 
 -- the status is that of an answer to the text, where the input gives one, and the output grew by the answer's bytes
@@ -63,3 +63,7 @@ module _ (EndsWith : Status → Type 0) (words : List (List ℕ)) (input : Inlet
         → IfSome input.left (WritesTheRest o.until o.events (GrowsBy before.written after.written))
     -- The two models of a document that `certify` finds sound mean the same.
     pub certified : job_of words ≡ Some jobs.Certify → EndsWith statuses.Done → IfSome input.left Certifies
+
+-- what `program` promises of a call with these words that ended with this exit status
+abbrev pub PromisesOf : List (List ℕ) → ℕ → Inlet → Outlet → Outlet → Type 0
+PromisesOf words number input before after = KeepsPromises (λ status. number ≡ exit_status_of status) words input before after

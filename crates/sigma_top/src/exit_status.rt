@@ -5,7 +5,7 @@ ghost use Rattle.std.specs.IoError.{error_kind};
 ghost use Rattle.std.specs.Process.{exit_status};
 ghost use Rattle.std.specs.String.{string_bytes};
 ghost use Rattle.answer_delivery.specs.Statuses.{exit_status_of, failure_line};
-ghost use Rattle.sigma_top.specs.Promises.{KeepsPromises};
+ghost use Rattle.sigma_top.specs.Promises.{PromisesOf};
 ghost use Rattle.sigma_top.specs.StatusTable.{ReportsLine, Ends};
 
 use crate::top_call::{sigma, write_line};
@@ -45,9 +45,8 @@ pub fn program<S: Source, K: Sink, E: Sink>(
 
     // The promises of `sigma` hold at the exit status: where that is 0, what `reduce` writes means the same as what it read.
     ensures promises { IfOk words
-        (λ words. KeepsPromises (λ status. exit_status result ≡ exit_status_of status)
-        (map string_bytes (vec_items words)) (S.seen input.old) (K.seen output.old)
-        (K.seen output.new)) }
+        (λ words. PromisesOf (map string_bytes (vec_items words)) (exit_status result)
+        (S.seen input.old) (K.seen output.old) (K.seen output.new)) }
 
     // Without words nothing is read, and nothing but the line is written.
     ensures untouched { OnErr words ((input.new ≡ input.old) × (output.new ≡ output.old)) }
