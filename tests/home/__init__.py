@@ -1,0 +1,1 @@
+"""Tests of the program at home on a machine: launcher, install, archive, gate and help."""
