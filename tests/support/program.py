@@ -14,7 +14,7 @@ from support.differences import first_difference
 Words = str | Sequence[str | bytes]
 
 # A call that takes longer hangs.
-LONGEST = 300
+LONGEST = 1200
 
 
 @dataclass(frozen=True)
