@@ -1,0 +1,1 @@
+"""What takes too long for the gate, or needs too much: called by hand."""

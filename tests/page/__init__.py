@@ -1,0 +1,1 @@
+"""Tests of the page: what the folder `page` offers, called from here."""

@@ -1,0 +1,90 @@
+"""The page's own tests, called part by part, and how its module for browsers is made."""
+
+from __future__ import annotations
+
+import subprocess
+from collections.abc import Callable
+from pathlib import Path
+
+import pytest
+
+from support.places import TOP
+from support.program import LONGEST, Program
+
+PAGE = TOP / "page"
+SMALL = PAGE / "module/tests/small.ll"
+SHOWN = 3000
+Needs = Callable[[str], str]
+
+
+def succeeds(*words: str | Path, program: Program | None = None) -> str:
+    """Call a command of the page, fail with the end of what it wrote, or answer that."""
+    place = {"SIGMA": str(program.path)} if program else {}
+    ran = subprocess.run(
+        ["env", *(f"{name}={value}" for name, value in place.items()), *words],
+        stdin=subprocess.DEVNULL,
+        stdout=subprocess.PIPE,
+        stderr=subprocess.STDOUT,
+        timeout=3 * LONGEST,
+        check=False,
+    )
+    output = ran.stdout.decode(errors="replace")
+    if ran.returncode:
+        pytest.fail(f"status {ran.returncode} of {words}\n{output[-SHOWN:]}", pytrace=False)
+    return output
+
+
+def test_types() -> None:
+    """The types of the page's sources are right."""
+    succeeds(PAGE / "test", "types")
+
+
+def test_plain_functions(program: Program) -> None:
+    """The page's plain functions, under node, and the program behind them."""
+    output = succeeds(PAGE / "test", "unit", program=program)
+    counts = [line.split()[-1] for line in output.splitlines() if " pass " in f"{line} "]
+    assert counts and int(counts[-1]) > 0, output[-SHOWN:]
+
+
+@pytest.mark.browsers
+def test_in_browsers(program: Program) -> None:
+    """The page is made, is used in browsers by mouse and keys, and answers as the program."""
+    succeeds(PAGE / "make")
+    succeeds(PAGE / "test", "browsers", program=program)
+    succeeds(PAGE / "test", "faithful", program=program)
+
+
+def test_the_c_of_the_module(needs: Needs) -> None:
+    """The C beside the program: its memory, and whole numbers of 128 bits."""
+    needs("cc")
+    output = succeeds(PAGE / "module/tests/try")
+    assert "skipped" not in output
+
+
+def test_a_small_module_becomes_webassembly(needs: Needs, tmp_path: Path) -> None:
+    """A small module as the kit lowers one becomes WebAssembly."""
+    needs("rt")
+    made = tmp_path / "small.wasm"
+    succeeds(PAGE / "module/link", SMALL, made)
+    assert made.read_bytes().startswith(b"\0asm")
+
+
+@pytest.mark.parametrize(
+    "old, new",
+    [
+        ("@sigma_page(", "@other("),
+        ('"probe-stack"="inline-asm"', '"probe-stack"="other"'),
+        ("\ntarget triple", "\nother triple"),
+    ],
+    ids=["without the call", "with attributes of x86-64", "without a target"],
+)
+def test_other_modules_are_refused(old: str, new: str, needs: Needs, tmp_path: Path) -> None:
+    """A module that isn't as the kit lowers one becomes no WebAssembly."""
+    needs("rt")
+    text = SMALL.read_text()
+    assert old in text
+    edited = tmp_path / "edited.ll"
+    edited.write_text(text.replace(old, new))
+    words = [PAGE / "module/link", edited, tmp_path / "small.wasm"]
+    ran = subprocess.run(words, capture_output=True, timeout=LONGEST, check=False)
+    assert ran.returncode != 0

@@ -1,0 +1,1 @@
+"""Tests of the program: calls of it, with what they must answer."""

@@ -1,0 +1,1 @@
+"""Tests of the repository: its crates, pages, examples and scripts."""
