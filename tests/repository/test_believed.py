@@ -15,6 +15,7 @@ from support.places import TOP
 
 DEFINITIONS = "docs/trust/definitions.md"
 SCEPTICS = "docs/trust/for-sceptics.md"
+PROMISES = "docs/trust/promises.md"
 
 
 @cache
@@ -32,7 +33,7 @@ def list_of(page: str, question: Question = Question()) -> tuple[list[str], int]
     "page, question",
     [
         (SCEPTICS, Question("two calls", "print_and_reduce")),
-        (SCEPTICS, Question("whole promise", "sigma", "reduced")),
+        (PROMISES, Question("whole promise", "sigma", "reduced")),
         (DEFINITIONS, Question()),
     ],
     ids=["print_and_reduce", "reduced", "sigma and program"],
