@@ -2,11 +2,14 @@
 
 from __future__ import annotations
 
+from collections.abc import Sequence
 from dataclasses import dataclass
 from typing import TYPE_CHECKING, Any
 
 import numpy as np
 from numpy.typing import NDArray
+
+from .errors import NoEstimate
 
 if TYPE_CHECKING:
     import pandas as pd
@@ -45,17 +48,46 @@ class Observations:
         return len(self.seeds)
 
     def to_frame(self) -> pd.DataFrame:
-        """The columns run (from 1), seed and value."""
-        raise NotImplementedError
+        """The columns run (from 1), seed and value, in raw units."""
+        import pandas as pd
+
+        return pd.DataFrame(
+            {"run": self.run + 1, "seed": self.seeds[self.run], "value": self.value}
+        )
+
+    def by_run(self, quantiles: Sequence[float] = (), limits: Sequence[float] = ()) -> pd.DataFrame:
+        """A row for each run with values: its seed, how many, their mean, and quantiles and shares.
+
+        A quantile is the least value that the share of the run's values doesn't exceed.
+        """
+        groups = self.to_frame().groupby("run")["value"]
+        table = groups.agg(values="size", mean="mean")
+        table.insert(0, "seed", self.seeds[table.index - 1])
+        for p in quantiles:
+            table[f"q{p:g}"] = groups.quantile(p, interpolation="higher")
+        for limit in limits:
+            table[f"<={limit:g}"] = groups.agg(lambda values, limit=limit: (values <= limit).mean())
+        return table
+
+    def need_values(self) -> None:
+        """Raises NoEstimate if no run has a value."""
+        if not len(self):
+            raise NoEstimate(f"none of {self.runs} runs has a value")
 
     def mean(self, *, confidence_level: float = 0.95) -> Estimate:
-        """The mean of all values (`clusters.mean(self, ..)`)."""
-        raise NotImplementedError
+        """The mean of all values, with an interval from runs as clusters."""
+        from . import clusters
+
+        return clusters.mean(self, confidence_level=confidence_level)
 
     def quantile(self, p: float, *, confidence_level: float = 0.95) -> Estimate:
-        """The quantile of all values (`clusters.quantile(self, p, ..)`)."""
-        raise NotImplementedError
+        """The least value that a share `p` of all values doesn't exceed, with its interval."""
+        from . import clusters
+
+        return clusters.quantile(self, p, confidence_level=confidence_level)
 
     def share_at_most(self, limit: float, *, confidence_level: float = 0.95) -> Estimate:
-        """Which share of all values is at most `limit` (`clusters.share_at_most(self, limit, ..)`)."""
-        raise NotImplementedError
+        """Which share of all values is at most `limit` (in raw units)."""
+        from . import clusters
+
+        return clusters.share_at_most(self, limit, confidence_level=confidence_level)
