@@ -244,7 +244,7 @@ def read_model(path: str) -> str:
     if path == "-":
         text, folder = sys.stdin.buffer.read().decode("utf-8", "surrogateescape"), "."
     else:
-        text, where = source_of(_File(path))
+        text, where = source_of(ModelFile(path))
         folder = str(where)
     if "# table" not in text and "# values" not in text:
         return ready(text + "\n" if "\n" not in text else text)
@@ -258,8 +258,8 @@ def read_model(path: str) -> str:
     return str(filled.text)
 
 
-class _File:
-    """A path, so that a name with a line feed or a semicolon isn't taken for a text."""
+class ModelFile:
+    """A file of a model, whose name may have a line feed or a semicolon."""
 
     def __init__(self, path: str) -> None:
         self.path = path
@@ -286,6 +286,6 @@ def read_report(word: str, *, keep_cut: bool = False) -> Report:
     if path == "-":
         made = Report.parse(sys.stdin.buffer.read(), "-", label)
     else:
-        made = Report.parse(_File(path).text, path, label)
+        made = Report.parse(ModelFile(path).text, path, label)
     made.on_cut = "keep" if keep_cut else "raise"
     return made

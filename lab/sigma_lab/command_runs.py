@@ -3,6 +3,7 @@
 from __future__ import annotations
 
 import argparse
+from typing import TYPE_CHECKING
 
 from .command import (
     Answer,
@@ -20,6 +21,9 @@ from .command import (
     whole,
 )
 from .errors import InputError, Stopped, status_of
+
+if TYPE_CHECKING:
+    from .estimates import Estimate
 
 
 def _replicate_words(parser: Parser) -> None:
@@ -118,12 +122,10 @@ def _observations(args: argparse.Namespace, answer: Answer) -> None:
             add_estimate(answer, f"share at most {limit:g}", here)
 
 
-def add_estimate(answer: Answer, name: str, estimate: object, **more: object) -> None:
+def add_estimate(answer: Answer, name: str, estimate: Estimate, **more: object) -> None:
     """An estimate as an answer."""
-    from dataclasses import asdict
-
     answer.lines.append(f"{name}: {estimate}")
-    answer.rows.append({"name": name, **more, **asdict(estimate)})  # type: ignore[call-overload]
+    answer.rows.append({"name": name, **more, **estimate.to_dict()})
 
 
 COMMANDS = (
