@@ -30,7 +30,7 @@ class Kept:
     def __init__(self, path: str | Path) -> None:
         self.path = Path(path)
         self.text: str | bytes = b""
-        self._new = self.path.with_name(f".{self.path.name[:200]}.{os.getpid()}.new")
+        self._new = self.path.parent / f".{self.path.name[:100]}.{os.getpid()}.new"
 
     def __enter__(self) -> Kept:
         if self.path.is_dir():

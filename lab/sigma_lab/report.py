@@ -311,25 +311,26 @@ class Report:
         self, measure: str | Measure, *, method: Method = "auto", confidence_level: float = 0.95
     ) -> Estimate:
         """The mean over the runs, or a ratio of totals, with its interval."""
+        sample = self.sample(measure)
         from . import estimators
 
-        return estimators.estimate(
-            self.sample(measure), method=method, confidence_level=confidence_level
-        )
+        return estimators.estimate(sample, method=method, confidence_level=confidence_level)
 
     def quantile(
         self, measure: str | Measure, p: float, *, confidence_level: float = 0.95
     ) -> Estimate:
         """The quantile of single runs at `p`, above 0 and below 1, with its interval."""
+        sample = self.sample(measure)
         from . import estimators
 
-        return estimators.quantile(self.sample(measure), p, confidence_level=confidence_level)
+        return estimators.quantile(sample, p, confidence_level=confidence_level)
 
     def predict(self, measure: str | Measure, *, confidence_level: float = 0.95) -> Estimate:
         """Between which values one further run lies."""
+        sample = self.sample(measure)
         from . import estimators
 
-        return estimators.prediction(self.sample(measure), confidence_level=confidence_level)
+        return estimators.prediction(sample, confidence_level=confidence_level)
 
     def summary(self, *, confidence_level: float = 0.95) -> pd.DataFrame:
         """A row for each item with its estimate: averages of variables, counts of events."""
