@@ -1,0 +1,348 @@
+"""The text of a report: reading it with every field and total checked, and writing it.
+
+A report is what `sigma replicate` writes: a header, a row for each run and watched item, and a row of totals for each
+item.  Programs of one's own may write reports too: they leave the least and the greatest value empty, and then time,
+last value and area may have decimals.
+
+What is read is canonical: `write(read(data)) == data` for every report of whole numbers.
+"""
+
+from __future__ import annotations
+
+import re
+from collections.abc import Iterable, Sequence
+from dataclasses import dataclass
+from fractions import Fraction
+from itertools import chain, repeat
+from operator import le, mul
+from typing import NoReturn
+
+from .errors import BadReport
+
+Number = int | Fraction
+Fields = Sequence[bytes]
+
+HEADER = b"run,seed,outcome,time,item,least,greatest,last,area,count"
+COLUMNS = ("least", "greatest", "last", "area", "count")
+OUTCOMES = (b"ended", b"stopped", b"fault", b"budget")
+_VARIABLE = ("least", "greatest", "last", "area")
+_WITH_DECIMALS = ("last", "area")
+_MOST_TIME, _MOST_COUNT, _MOST_SEED = 2**48, 2**40, 2**64 - 1
+_DECIMAL = re.compile(rb"-?(?:0|[1-9]\d{0,39})\.\d{1,40}")
+_WHOLE = re.compile(rb"0|-?[1-9]\d{0,39}")
+_ITEM = re.compile(rb"[A-Za-z][A-Za-z0-9_]{0,31}(?:\[(?:0|[1-9]\d{0,15})\])?")
+_MARKS = (b"\xef\xbb\xbf", b"\xfe\xff", b"\xff\xfe")
+
+
+@dataclass
+class Columns:
+    """The runs of a report, by column.
+
+    Attributes
+    ----------
+    items : tuple of str
+        The watched items.
+    seeds, outcomes, times : list
+        A value for each run.
+    values : list of dict
+        For each item its columns by name, with a value for each run.  A column that an item hasn't isn't there.
+    """
+
+    items: tuple[str, ...]
+    seeds: list[int]
+    outcomes: list[str]
+    times: list[Number]
+    values: list[dict[str, list[Number]]]
+
+
+def read(data: bytes, source: str = "", line: int = 1) -> list[Columns]:
+    """The reports of a text, one after the other.
+
+    Parameters
+    ----------
+    data : bytes
+        One report, or several with their headers.
+    source : str
+        The name that errors have.
+    line : int
+        The number of the first line.
+
+    Raises
+    ------
+    BadReport
+        With the line of the first fault of the most basic kind.
+    """
+    if not data:
+        raise BadReport("is empty", None, source)
+    if data.startswith(_MARKS):
+        raise BadReport("the report begins with a byte order mark", line, source)
+    lines = data.split(b"\n")
+    if lines.pop() != b"":
+        cut = line + len(lines)
+        raise BadReport("the last line has no line end, so the report is cut off", cut, source)
+    if lines[0] != HEADER:
+        raise BadReport("this is no report: its header is another one", line, source)
+    starts = [number for number, text in enumerate(lines) if text == HEADER]
+    return [
+        _Reader(lines[start + 1 : end], source, line + start + 1).read()
+        for start, end in zip(starts, [*starts[1:], len(lines)])
+    ]
+
+
+class _Reader:
+    """One report, from the line below its header."""
+
+    def __init__(self, lines: Sequence[bytes], source: str, line: int) -> None:
+        self.source, self.line = source, line
+        count = next((k for k, text in enumerate(lines) if text[:5] == b"total"), len(lines))
+        self.lines, self.totals = lines[:count], lines[count:]
+
+    def refuse(self, row: int, message: str) -> NoReturn:
+        raise BadReport(message, self.line + row, self.source)
+
+    def read(self) -> Columns:
+        if not self.lines:
+            self.refuse(0, "totals of no run" if self.totals else "it has no run")
+        for number, text in enumerate(self.lines):
+            if text.count(b",") != 9 or text[-1:] == b"\r":
+                self.refuse(number, _why_no_row(text))
+        flat = b",".join(self.lines).split(b",")
+        run, seed, outcome, time, item, *columns = (flat[at::10] for at in range(10))
+        width = next((k for k, number in enumerate(run) if number != b"1"), len(run))
+        items = self._items(run, item, width)
+        for name, column in (("seeds", seed), ("outcomes", outcome), ("times", time)):
+            self._one_of_each_run(name, column, width)
+        made = Columns(
+            items,
+            [int(seed) for seed in self._numbers(seed[::width], 0, width)],
+            self._outcomes(outcome[::width], width),
+            self._numbers(time[::width], 0, width, decimals=True),
+            [self._values([c[at::width] for c in columns], at, width) for at in range(width)],
+        )
+        self._check_limits(made, width)
+        for at in range(width):
+            self._check_item(made, at, width)
+        self._check_totals(made)
+        return made
+
+    # The order of rows
+
+    def _items(self, run: Fields, item: Fields, width: int) -> tuple[str, ...]:
+        if width == 0:
+            self._wrong_run(0, run[0], 1)
+        names = list(item[:width])
+        for at, name in enumerate(names):
+            if _ITEM.fullmatch(name) is None:
+                self.refuse(at, _why_no_field(self.lines[at]))
+            if name in names[:at]:
+                self.refuse(at, f"run 1 has {name.decode()} twice")
+        count = -(-len(run) // width)
+        expected = list(chain.from_iterable(repeat(b"%d" % k, width) for k in range(1, count + 1)))
+        for at, (here, wanted) in enumerate(zip(run, expected)):
+            if here != wanted:
+                if at % width and here == b"%d" % (int(wanted) + 1):
+                    self.refuse(at, f"run {int(wanted)} has no row of {names[at % width].decode()}")
+                self._wrong_run(at, here, int(wanted) + (at % width > 0))
+        for at, (here, wanted) in enumerate(zip(item, names * count)):
+            if here != wanted:
+                place = f"item {at % width + 1} of run {at // width + 1}"
+                shown = here.decode("ascii", "backslashreplace")
+                self.refuse(at, f"{place} is {shown}, and the first run has {wanted.decode()}")
+        if len(run) % width:
+            missing = names[len(run) % width].decode()
+            self.refuse(len(run), f"run {count} has no row of {missing}")
+        return tuple(name.decode() for name in names)
+
+    def _wrong_run(self, row: int, here: bytes, wanted: int) -> NoReturn:
+        if _WHOLE.fullmatch(here) is None:
+            self.refuse(row, _why_no_field(self.lines[row]))
+        what = f"run {here.decode()} where run {wanted} has to be"
+        self.refuse(row, f"{what}: rows are missing or in another order")
+
+    def _one_of_each_run(self, name: str, column: Fields, width: int) -> None:
+        first = column[::width]
+        for at in range(1, width):
+            if column[at::width] != first:
+                others = zip(first, column[at::width])
+                run = next(k for k, (a, b) in enumerate(others) if a != b)
+                self.refuse(run * width + at, f"run {run + 1} has two {name}")
+
+    # Fields
+
+    def _numbers(
+        self, column: Fields, at: int, width: int, *, decimals: bool = False
+    ) -> list[Number]:
+        """The numbers of a column whose k-th field is in row `k * width + at`."""
+        try:
+            whole = list(map(int, column))
+            if [b"%d" % number for number in whole] == list(column):
+                return list(whole)
+        except ValueError:
+            pass
+        made: list[Number] = []
+        for run, field in enumerate(column):
+            if len(field) <= 41 and _WHOLE.fullmatch(field):
+                made.append(int(field))
+            elif decimals and _DECIMAL.fullmatch(field):
+                made.append(Fraction(field.decode()))
+            else:
+                row = run * width + at
+                self.refuse(row, _why_no_field(self.lines[row]))
+        return made
+
+    def _outcomes(self, column: Fields, width: int) -> list[str]:
+        for run, word in enumerate(column):
+            if word not in OUTCOMES:
+                self.refuse(run * width, _why_no_field(self.lines[run * width]))
+        return [word.decode() for word in column]
+
+    def _values(self, columns: list[Fields], at: int, width: int) -> dict[str, list[Number]]:
+        made: dict[str, list[Number]] = {}
+        for name, column in zip(COLUMNS, columns):
+            if not any(column):
+                continue
+            if not all(column):
+                run = next(k for k, field in enumerate(column) if bool(field) != bool(column[0]))
+                text = "this item has other columns here than in the first run"
+                self.refuse(run * width + at, text)
+            made[name] = self._numbers(column, at, width, decimals=name in _WITH_DECIMALS)
+        return made
+
+    # What the numbers may be
+
+    def _check_limits(self, made: Columns, width: int) -> None:
+        for run, (seed, time) in enumerate(zip(made.seeds, made.times)):
+            if not (0 <= seed <= _MOST_SEED and 0 <= time <= _MOST_TIME):
+                self.refuse(run * width, "the seed or the time is outside its limits")
+
+    def _check_item(self, made: Columns, at: int, width: int) -> None:
+        values, times = made.values[at], made.times
+        names = tuple(values)
+
+        def check(good: Iterable[bool], message: str) -> None:
+            bad = next((run for run, is_good in enumerate(good) if not is_good), None)
+            if bad is not None:
+                self.refuse(bad * width + at, message)
+
+        if names == ("count",):
+            check(
+                (0 <= c <= _MOST_COUNT for c in values["count"]), "the count is outside its limits"
+            )
+        elif names == _VARIABLE:
+            least, greatest, last, area = (values[name] for name in _VARIABLE)
+            for column in (last, area, times):
+                whole = (type(value) is int for value in column)
+                check(whole, "decimals are for rows without least and greatest value")
+            outside = "the last value isn't from the least to the greatest one"
+            check(map(le, least, last), outside)
+            check(map(le, last, greatest), outside)
+            check((-(2**63) <= value for value in least), outside)
+            check((value < 2**63 for value in greatest), outside)
+            outside = "the area isn't from the least to the greatest value times the time"
+            check(map(le, map(mul, least, times), area), outside)
+            check(map(le, area, map(mul, greatest, times)), outside)
+        elif not names or not set(names) <= set(_WITH_DECIMALS):
+            self.refuse(at, f"{made.items[at]} has no such set of columns")
+
+    def _check_totals(self, made: Columns) -> None:
+        first = len(self.lines)
+        for at, (name, text) in enumerate(zip(made.items, self.totals)):
+            fields = text.split(b",")
+            if text[-1:] == b"\r" or len(fields) != 10 or fields[:4] != [b"total", b"", b"", b""]:
+                row = text[:5] != b"total"
+                self.refuse(
+                    first + at, "a row after the totals" if row else "this is no row of totals"
+                )
+            if fields[4] != name.encode():
+                shown = fields[4].decode("ascii", "backslashreplace")
+                self.refuse(first + at, f"the total of {shown} isn't in its place")
+            for column, given, wanted in zip(COLUMNS, fields[5:], _totals(made.values[at])):
+                if given != wanted and not self._is_near(given, made.values[at].get(column)):
+                    if given and not _WHOLE.fullmatch(given) and not _DECIMAL.fullmatch(given):
+                        self.refuse(first + at, "this is no row of totals")
+                    shown = given.decode() or "empty"
+                    text_of = f"the total {column} of {name} is {shown}"
+                    come = wanted.decode() or "none"
+                    self.refuse(
+                        first + at,
+                        f"{text_of}, and its rows come to {come}: rows are missing or changed",
+                    )
+        if not self.totals:
+            self.refuse(first, "the report ends without its totals")
+        if len(self.totals) < len(made.items):
+            missing = made.items[len(self.totals)]
+            self.refuse(first + len(self.totals), f"the total of {missing} is missing")
+        if len(self.totals) > len(made.items):
+            self.refuse(first + len(made.items), "a row after the totals")
+
+    @staticmethod
+    def _is_near(given: bytes, rows: list[Number] | None) -> bool:
+        """Whether a total with decimals was summed in floating point."""
+        if rows is None or not any(type(value) is Fraction for value in rows):
+            return False
+        if _DECIMAL.fullmatch(given) is None and _WHOLE.fullmatch(given) is None:
+            return False
+        near = Fraction(1, 10**9) * sum(abs(Fraction(row)) for row in rows)
+        return bool(abs(Fraction(given.decode()) - sum(rows)) <= near)
+
+
+def _totals(values: dict[str, list[Number]]) -> list[bytes]:
+    """The fields of a row of totals."""
+    made = []
+    for column in COLUMNS:
+        rows = values.get(column)
+        if rows is None or column == "last":
+            made.append(b"")
+        elif column in ("least", "greatest"):
+            made.append(number_text(min(rows) if column == "least" else max(rows)).encode())
+        else:
+            made.append(number_text(sum(rows)).encode())
+    return made
+
+
+def _why_no_row(text: bytes) -> str:
+    if text.endswith(b"\r"):
+        return "the line ends in CR LF, not in a line feed alone"
+    return f"the row has {text.count(b',') + 1} fields, and the header has 10"
+
+
+def _why_no_field(text: bytes) -> str:
+    shown = text.decode("ascii", "backslashreplace")[:120]
+    return f"a field hasn't the form of its column: {shown}"
+
+
+# Writing
+
+
+def number_text(number: Number) -> str:
+    """A number as reports have it.  A Fraction here always has a finite decimal form."""
+    if not isinstance(number, Fraction):
+        return str(int(number))
+    sign, rest, digits = "-" if number < 0 else "", abs(number), 0
+    while rest.denominator > 1 and digits < 80:
+        rest *= 10
+        digits += 1
+    whole = str(int(rest)).rjust(digits + 1, "0")
+    return sign + (f"{whole[:-digits]}.{whole[-digits:]}" if digits else whole + ".0")
+
+
+def write(made: Columns) -> str:
+    """The text of a report, with its header and totals."""
+    runs = len(made.seeds)
+    heads = [
+        f"{run},{seed},{outcome},{number_text(time)},"
+        for run, (seed, outcome, time) in enumerate(zip(made.seeds, made.outcomes, made.times), 1)
+    ]
+    blocks = []
+    for name, values in zip(made.items, made.values):
+        texts = [
+            list(map(number_text, values[column])) if column in values else [""] * runs
+            for column in COLUMNS
+        ]
+        blocks.append([f"{name}," + ",".join(fields) for fields in zip(*texts)])
+    lines = [HEADER.decode()]
+    for head, *rows in zip(heads, *blocks):
+        lines += [head + row for row in rows]
+    for name, values in zip(made.items, made.values):
+        lines.append(f"total,,,,{name}," + b",".join(_totals(values)).decode())
+    return "\n".join(lines) + "\n"
