@@ -246,13 +246,12 @@ def compare_reports(
     reports: Mapping[str, Report],
     measure: Measure,
     *,
-    against: Literal["first", "all", "best"] = "first",
-    minimize: bool = True,
+    against: Literal["first", "all", "least", "greatest"] = "first",
     adjust: Adjust = "holm",
     paired: bool = True,
     confidence_level: float = 0.95,
 ) -> pd.DataFrame:
-    """Differences of designs by their reports, as `compare`, or as `mcb` where `against` is `best`.
+    """Differences of designs by their reports, as `compare`; from the best, which is the least or the greatest, as `mcb`.
 
     Raises
     ------
@@ -267,7 +266,8 @@ def compare_reports(
     if paired:
         samples = _aligned(samples)
     designs = {name: plain(sample) for name, sample in samples.items()}
-    if against == "best":
+    if against == "least" or against == "greatest":
+        minimize = against == "least"
         return mcb(designs, minimize=minimize, paired=paired, confidence_level=confidence_level)
     return compare(
         designs, against=against, adjust=adjust, paired=paired, confidence_level=confidence_level

@@ -120,7 +120,7 @@ def _moments(average: float, more: Floats, level: float, is_skewed: bool) -> Est
     skewness = float(stats.skew(more))
     low = high = t
     if is_skewed:
-        unbiased = float(stats.skew(more, bias=False))
+        unbiased = skewness * math.sqrt(n * (n - 1)) / (n - 2)
         low, high = skewed_t(t, unbiased, n), -skewed_t(-t, unbiased, n)
     name = "Willink" if is_skewed else "Student's t"
     made = Estimate(

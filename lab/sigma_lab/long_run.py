@@ -70,7 +70,7 @@ def find_warm_up(
         `advise()` has the tick for `Plan.warm_up`.
     """
     until = plan.until
-    size = step or next((n for n in range(max(1, until // 200), 0, -1) if until % n == 0), 1)
+    size = step or next(n for n in range(max(1, until // 200), 0, -1) if until % n == 0)
     if size < 1 or until < size or until % size or until // size > MOST_STEPS:
         raise InputError(f"the stop time has a whole number of steps, up to {MOST_STEPS}")
     if plan.runs < 2:

@@ -56,8 +56,7 @@ class Sweep:
         return comparisons.compare_reports(
             self.reports,
             measure,
-            against="best",
-            minimize=minimize,
+            against="least" if minimize else "greatest",
             confidence_level=confidence_level,
         )
 

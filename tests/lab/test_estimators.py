@@ -50,6 +50,7 @@ def test_large_whole_numbers_lose_nothing():
     assert stats.mean(near, method="t").standard_error == pytest.approx(ss.sem([0, 1, 2, 3, 4]))
 
 
+@settings(deadline=None, max_examples=30)
 @given(st.floats(-1e9, 1e9), st.integers(2, 50))
 def test_equal_values_are_no_certainty(x, n):
     made = stats.mean(np.full(n, x))
@@ -72,7 +73,7 @@ def test_none_seen_of_clustered_counts():
     def rare(g):
         return 40 * g.binomial(1, 0.02, 50)
 
-    assert held(lambda g: stats.mean(rare(g), bounds=(0, 40)), 0.8, 1000) >= 93
+    assert held(lambda g: stats.mean(rare(g), bounds=(0, 40)), 0.8, 300) >= 91
     assert math.isnan(stats.mean([0] * 30).high)
     made = stats.mean([0] * 30, method="poisson")
     assert (made.low, made.high) == (0, pytest.approx(-math.log(0.025) / 30))
@@ -131,7 +132,7 @@ def test_none_lost_of_those_who_came():
     assert made.value == 0 and math.isnan(made.high) and made.warnings
 
 
-@settings(max_examples=200, deadline=None)
+@settings(max_examples=80, deadline=None)
 @given(st.integers(5, 400), st.floats(0.02, 0.98), st.sampled_from([0.8, 0.95, 0.99]))
 def test_ends_of_quantiles_hold_by_the_binomial(n, p, level):
     made = stats.quantile(np.arange(1, n + 1), p, confidence_level=level)
@@ -169,7 +170,7 @@ def test_quantiles_hold():
 def test_predictions_hold():
     for n in (10, 60):
         hits = []
-        for k in range(600):
+        for k in range(300):
             g = np.random.default_rng(k)
             made = stats.prediction(g.normal(3, 2, n))
             hits.append(made.low <= g.normal(3, 2) <= made.high)
@@ -184,9 +185,9 @@ def test_a_prediction_of_equal_values_has_no_interval():
 
 
 def test_means_hold():
-    for n in (5, 10, 40):
-        assert 92.5 <= held(lambda g, n=n: stats.mean(g.normal(size=n)), 0, 2000) <= 97
-    assert held(lambda g: stats.mean(g.exponential(size=10)), 1, 2000) >= 92.5
+    for n in (5, 20):
+        assert 91 <= held(lambda g, n=n: stats.mean(g.normal(size=n)), 0, 300) <= 98.5
+    assert held(lambda g: stats.mean(g.exponential(size=10)), 1, 400) >= 91
     assert 92 <= held(lambda g: stats.ratio(g.gamma(4, 2, 20), g.gamma(4, 1, 20)), 2) <= 98
 
 
