@@ -1,0 +1,144 @@
+"""How often decisions are wrong, where 5 per cent are promised.
+
+    python3 lab/measured/decisions.py
+
+Each series of runs is one whole decision, as `search`, `select_best` and `run_until_precise` make it.  The truth lies
+just beyond the bound, which is where a decision errs most often.
+"""
+
+from __future__ import annotations
+
+import math
+import sys
+from pathlib import Path
+
+import numpy as np
+
+sys.path.insert(0, str(Path(__file__).resolve().parents[1]))
+
+from laws import LAWS, Floats, Law  # noqa: E402
+from rows import Row, keep, row  # noqa: E402
+
+from sigma_lab import estimators  # noqa: E402
+from sigma_lab.choosing import Contest  # noqa: E402
+from sigma_lab.measures import Sample, item  # noqa: E402
+from sigma_lab.narrowing import Goal, needed_runs  # noqa: E402
+from sigma_lab.targets import Limits, Sense, Target, decide  # noqa: E402
+
+SERIES = 1000
+RISK = 0.05
+MARGINS = {"normal": 0.1, "exponential": 0.3, "lognormal, cv 3": 0.5}
+MOST = 20_000
+
+
+def sample_of(values: Floats) -> Sample:
+    """The sample of a series of runs."""
+    return Sample(np.arange(len(values), dtype=np.uint64), values)
+
+
+def decided(target: Target, law: Law, values: Floats, risk: float) -> tuple[str, int]:
+    """The decision of a target, and after how many runs."""
+    limits = Limits.of(target, (law.least, law.greatest), (1.0, 1.0))
+    return decide(target, sample_of(values), limits, risk)
+
+
+def targets(law: Law) -> list[Row]:
+    """Wrongly met, and wrongly passed over."""
+    made, margin = [], MARGINS.get(law.name, 0.5)
+    for sense, sign in (("<=", -1.0), (">=", 1.0)):
+        for error in ("met", "passed over"):
+            # The mean of the law is 1.  It misses the bound by a thousandth, or is better by a bit more than the margin.
+            bound = 1 + sign * 0.001 if error == "met" else 1 - sign * margin * 1.001
+            target = Target(item("X"), sense, bound, margin)  # type: ignore[arg-type]
+            wrong, took = [], []
+            for series in range(SERIES):
+                values = law.draw(np.random.default_rng(series), MOST)
+                state, runs = decided(target, law, values, RISK)
+                wrong.append(
+                    state == "meets" if error == "met" else state in ("misses", "passed over")
+                )
+                took.append(runs)
+            name = f"target {sense}, wrongly {error}"
+            made.append(row(name, law.name, round(np.mean(took)), 5, wrong))
+    return made
+
+
+def searches(law: Law) -> Row:
+    """Four designs, the third one just misses the bound, the fourth one is better by the margin."""
+    sense: Sense = "<="
+    margin = MARGINS.get(law.name, 0.5)
+    target = Target(item("X"), sense, 1.0, margin)
+    wrong, took = [], []
+    for series in range(SERIES // 2):
+        generator, chosen, all_runs = np.random.default_rng(series), -1, 0
+        for design, mean in enumerate((1 + 2 * margin, 1 + margin, 1.001, 1 - 1.01 * margin)):
+            values = law.draw(generator, MOST) * mean
+            wide = Law(law.name, law.draw, law.greatest * mean, law.least * mean)
+            state, runs = decided(target, wide, values, RISK / 4)
+            all_runs += runs
+            if state == "meets":
+                chosen = design
+                break
+        wrong.append(chosen not in (3, -1) or chosen == -1 and state != "more")
+        took.append(all_runs)
+    return row("search, 4 designs", law.name, round(np.mean(took)), 5, wrong)
+
+
+def selections(law: Law, designs: int) -> Row:
+    """The best of some designs, the others behind by the indifference, under common random numbers."""
+    by = 2 * MARGINS.get(law.name, 0.5)
+    wrong, took, undecided = [], [], 0
+    for series in range(SERIES // 4):
+        generator = np.random.default_rng(series)
+        common = law.draw(generator, MOST)
+        values = {
+            k: 0.5 * (common + law.draw(generator, MOST)) - by * (k > 0) for k in range(designs)
+        }
+        contest = Contest(by, (law.least - by, law.greatest), RISK, designs)
+        runs, winner = 50, None
+        while winner is None and runs <= MOST:
+            alive = {k: v[:runs] for k, v in values.items() if k not in contest.left}
+            contest.leave(alive)
+            alive = {k: v for k, v in alive.items() if k not in contest.left}
+            winner = contest.winner(alive)
+            runs *= 2
+        undecided += winner is None
+        wrong.append(0 in contest.left or winner not in (0, None))
+        took.append(runs // 2)
+    note = f"{undecided} undecided" if undecided else ""
+    return row(f"best of {designs}", law.name, round(np.mean(took)), 5, wrong, note)
+
+
+def precisions(law: Law, relative: float) -> Row:
+    """An interval that is narrow enough misses the mean."""
+    goal, bounds = Goal(relative=relative), (law.least, law.greatest)
+    wrong, took = [], []
+    for series in range(SERIES // 2):
+        values = law.draw(np.random.default_rng(series), 60_000)
+        runs = 50
+        while True:
+            made = estimators.mean(values[:runs], bounds=bounds)
+            need = needed_runs(made, values[:runs], bounds, goal.of(made.value))
+            if need <= runs:
+                break
+            more = max(need, runs + runs // 20, runs + 5)
+            runs = math.ceil(min(more, 2 * runs, len(values)))
+        wrong.append(not made.low <= 1 <= made.high)
+        took.append(runs)
+    name = f"precise to {relative:.0%}, misses the mean"
+    return row(name, law.name, round(np.mean(took)), 5, wrong)
+
+
+def main() -> None:
+    """Measures all of it, and keeps it."""
+    rows: list[Row] = []
+    for law in LAWS:
+        rows += targets(law)
+        rows.append(searches(law))
+        rows += [selections(law, designs) for designs in (2, 5)]
+        rows += [precisions(law, relative) for relative in (0.1, 0.3)]
+    keep("decisions", rows)
+
+
+if __name__ == "__main__":
+    main()
