@@ -8,7 +8,7 @@ from typing import TYPE_CHECKING
 from ..body import MOST_TARGETS, Body
 from ..building import Building
 from ..errors import InputError
-from ..terms import Array, Term
+from ..terms import Array, Term, Value
 from ..tree import Name, Variable, Vertex
 from .pool import FOREVER, Pool, now_minus
 from .resource import Seizable
@@ -111,6 +111,20 @@ class Way:
         words = note or f"{self.name}: {name.lower().replace('_', ' ')} of each"
         return self.pool.array(name, high, words, low=low)[self.it]
 
+    def reference(self, name: str, *, note: str = "") -> Term:
+        """An attribute that holds the number of another entity."""
+        words = note or f"{self.name}: the number of another entity"
+        return self.pool.array(name, lambda: self.pool.size - 1, words)[self.it]
+
+    def of(self, attribute: Term, number: Value) -> Term:
+        """The attribute of the entity of this number."""
+        return Array(str(attribute).partition("[")[0], 0, attribute.natural)[number]
+
+    @property
+    def came(self) -> Term:
+        """When the entity at hand came."""
+        return self._came[self.it]
+
     def _clear(self, e: Body) -> None:
         """Gives one who comes its first attributes, since its number had others perhaps."""
         stores = [
@@ -152,14 +166,21 @@ class Way:
         self._step = new
         return new
 
-    def at(self, name: str) -> None:
-        """Begins a step that others go to by `go`, `route` or `gone`."""
+    def at(self, name: str, *, from_outside: bool = False) -> None:
+        """Begins a step that others go to by `go`, `route` or `gone`.
+
+        Parameters
+        ----------
+        from_outside : bool
+            Whether events that aren't steps of the way lead there, as `e.urgent("FOUND", number)`.
+        """
         new = self._new_step(name, fixed=True)
         if new.is_begun:
             raise InputError(f"{self.name}: the step {name} was begun already")
         if self._step is not None:
             self._step.urgent(name, self.it)
             new.comes_from(self._step)
+        new.is_reached = new.is_reached or from_outside
         new.is_begun = True
         self._said.setdefault(name, f"{self.name}: {name.lower().replace('_', ' ')}")
         self._story.append(f"at {name}:")
