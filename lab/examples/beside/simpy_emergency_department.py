@@ -1,9 +1,19 @@
 """The emergency department in SimPy 2: its Resource has no shifts, so the doctors are a pool of our own."""
 
 import bisect
+from math import inf, log, sqrt
 from random import Random
 
-from SimPy.Simulation import Process, Resource, PriorityQ, Simulation, hold, passivate, release, request
+from SimPy.Simulation import (
+    Process,
+    Resource,
+    PriorityQ,
+    Simulation,
+    hold,
+    passivate,
+    release,
+    request,
+)
 
 HOUR, DAY = 360.0, 8640.0
 RATES = [4, 3, 3, 2, 2, 2, 3, 5, 8, 10, 11, 12, 11, 10, 10, 9, 9, 10, 11, 10, 8, 7, 6, 5]
@@ -11,8 +21,6 @@ MEAN_SD = [(360, 180), (180, 90), (72, 30)]
 
 
 def lognormal(chance: Random, mean: float, sd: float) -> float:
-    from math import log, sqrt
-
     variance = log(1 + (sd / mean) ** 2)
     return chance.lognormvariate(log(mean) - variance / 2, sqrt(variance))
 
@@ -22,36 +30,43 @@ class Doctors:
 
     def __init__(self, sim):
         self.sim, self.staff, self.serving, self.waiting = sim, 0, [], []
-        self.number, self.area, self.since, self.joining = 0, 0.0, 0.0, None
+        self.number, self.area, self.since = 0, 0.0, 0.0
+        self.interruptions = 0
 
     def count(self):
         now = self.sim.now()
         self.area += len(self.serving) * (now - self.since)
         self.since = now
 
-    def join(self, patient, first=False):
+    def join(self, patient):
         self.number += 1
-        key = -self.number if first else self.number
-        bisect.insort(self.waiting, (patient.urgency, key, patient))
-        self.joining = patient
-        self.next()
-        self.joining = None
+        bisect.insort(self.waiting, (patient.urgency, self.number, patient))
+        self.next(patient)
 
-    def next(self):
+    def put_back(self, patient):
+        self.number += 1
+        bisect.insort(self.waiting, (patient.urgency, -self.number, patient))
+
+    def next(self, current=None):
         self.count()
         while self.waiting and len(self.serving) < self.staff:
             patient = self.waiting.pop(0)[2]
             self.serving.append(patient)
             patient.is_served = True
-            if patient is not self.joining:
+            if patient is not current:
                 self.sim.reactivate(patient)
         if self.waiting and self.waiting[0][0] == 0 and len(self.serving) == self.staff:
             last = max((each.urgency for each in self.serving), default=0)
             if last > 0:
                 victim = [each for each in self.serving if each.urgency == last][-1]
                 self.serving.remove(victim)
-                victim.interrupt(victim)
-                self.next()
+                victim.is_served = False
+                self.interruptions += 1
+                if victim.is_treated:
+                    victim.interrupt(victim)
+                else:  # it was called at this moment
+                    self.put_back(victim)
+                self.next(current)
 
     def leave(self, patient):
         self.count()
@@ -73,28 +88,29 @@ class Patient(Process):
         yield release, self, day.nurses
         self.urgency = day.chance.choices((0, 1, 2), (6, 40, 54))[0]
         yield request, self, day.beds, 3 - self.urgency
-        left, self.is_served, came = lognormal(day.chance, *MEAN_SD[self.urgency]), False, day.now()
+        left, came = lognormal(day.chance, *MEAN_SD[self.urgency]), day.now()
+        self.is_served = self.is_treated = False
         day.doctors.join(self)
-        if not self.is_served and self.urgency == 2:
-            yield hold, self, 4 * HOUR
-        elif not self.is_served:
-            yield passivate, self
+        limit = came + 4 * HOUR if self.urgency == 2 else inf
+        while not self.is_served and day.now() < limit:
+            yield (hold, self, limit - day.now()) if limit < inf else (passivate, self)
         if not self.is_served:
             day.doctors.give_up(self)
             day.gone += 1
         else:
             day.waited[self.urgency].append(day.now() - came)
-            while True:
-                begun = day.now()
-                yield hold, self, left
-                if not self.interrupted():
-                    break
-                day.interruptions += 1
-                left -= day.now() - begun
-                self.is_served = False
-                day.doctors.join(self, first=True)
-                if not self.is_served:
+            while left is not None:
+                while not self.is_served:
                     yield passivate, self
+                begun, self.is_treated = day.now(), True
+                yield hold, self, left
+                self.is_treated = False
+                if self.interrupted():
+                    left -= day.now() - begun
+                    day.doctors.put_back(self)
+                    day.doctors.next(self)
+                else:
+                    left = None
             day.doctors.leave(self)
         yield release, self, day.beds
         day.inside(-1)
@@ -132,7 +148,7 @@ def run(seed: int, until: float, start: tuple[int, ...]) -> dict[str, float]:
     day.chance, day.doctors = Random(seed), Doctors(day)
     day.nurses = Resource(capacity=nurses, sim=day)
     day.beds = Resource(capacity=beds, qType=PriorityQ, sim=day)
-    day.waited, day.gone, day.interruptions = ([], [], []), 0, 0
+    day.waited, day.gone = ([], [], []), 0
     day.area = day.since = day.count = 0
     shifts, come = Shifts(sim=day), Come(sim=day)
     day.activate(shifts, shifts.way(day, (night, early, late)), at=0.0)
@@ -147,5 +163,5 @@ def run(seed: int, until: float, start: tuple[int, ...]) -> dict[str, float]:
         "red wait, s": 10 * sum(day.waited[0]) / len(day.waited[0]),
         "yellow wait, min": sum(day.waited[1]) / len(day.waited[1]) / 6,
         "green home a day": day.gone / days,
-        "interrupted a day": day.interruptions / days,
+        "interrupted a day": day.doctors.interruptions / days,
     }

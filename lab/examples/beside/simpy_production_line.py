@@ -68,7 +68,9 @@ def run(seed: int, until: float, start: tuple[int, ...]) -> dict[str, float]:
     line.chance, line.kind, line.setups, line.done = Random(seed), 0, 0, 0
     line.first = Resource(qType=PriorityQ, monitored=True, sim=line)
     line.second, line.third = Resource(monitored=True, sim=line), Resource(monitored=True, sim=line)
-    line.before, line.behind = (Resource(capacity=start[0], monitored=True, sim=line) for _ in range(2))
+    line.before, line.behind = (
+        Resource(capacity=start[0], monitored=True, sim=line) for _ in range(2)
+    )
     line.new()
     breakdowns = Breakdowns(sim=line)
     line.activate(breakdowns, breakdowns.way(line), at=0.0)
