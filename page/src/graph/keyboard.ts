@@ -46,6 +46,9 @@ export class Keyboard {
     element.focus({ preventScroll: true });
   }
 
+  /** To the part that Tab comes to. */
+  enter(): void { this.focus(this.current); }
+
   /** What has the focus, before all is drawn anew. */
   remember(): string {
     const { activeElement } = document;
