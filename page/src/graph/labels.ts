@@ -35,8 +35,8 @@ export function candidates({ samples, width, height }: Wanted): Point[] {
   for (let i = 1; i < samples.length - 1; i++) {
     const before = samples[i - 1], after = samples[i + 1], length = Math.hypot(after.x - before.x, after.y - before.y) || 1;
     const normal = { x: -(after.y - before.y) / length, y: (after.x - before.x) / length };
-    const off = OFF + Math.abs(normal.x) * width / 2 + Math.abs(normal.y) * height / 2;
-    for (const side of [-1, 1]) found.push({ x: samples[i].x + side * normal.x * off, y: samples[i].y + side * normal.y * off });
+    const half = Math.abs(normal.x) * width / 2 + Math.abs(normal.y) * height / 2;
+    for (const side of [-1, 1]) for (const more of [0, 14]) found.push({ x: samples[i].x + side * normal.x * (OFF + half + more), y: samples[i].y + side * normal.y * (OFF + half + more) });
   }
   return found;
 }
