@@ -1,0 +1,43 @@
+// The tab Describe: the model in the program's English. A name in it leads to its event.
+import { App, Tab } from "../app";
+import { h } from "../ui/dom";
+import { icon } from "../ui/icons";
+
+export class DescribeTab implements Tab {
+  readonly id = "describe"; readonly title = "Describe"; readonly icon = "text";
+  readonly element = h("div", { className: "describe-tab" });
+  private is_shown = false;
+  private of = -1;
+  constructor(private readonly app: App) { app.store.listen(change => { if (change === "verdict" && this.is_shown) void this.ask(); }); }
+  shown(): void { this.is_shown = true; void this.ask(); }
+  hidden(): void { this.is_shown = false; }
+
+  private async ask(): Promise<void> {
+    const { store, engine } = this.app, { verdict } = store;
+    if (verdict.state === "checking" || this.of === store.revision) return;
+    if (verdict.state !== "accepted") { this.of = -1; this.blank(verdict.state === "refused" ? "The text is refused" : "There is no model yet"); return; }
+    const answer = await engine.call({ words: ["describe"], input: verdict.model.text });
+    if (store.revision !== verdict.revision || !this.is_shown) return;
+    this.of = verdict.revision;
+    this.element.replaceChildren(h("div", { className: "described" }, ...groups_of(answer.out).map(({ title, lines }) => h("section", {}, h("h3", {}, ...this.linked(title)), ...lines.map(line => h("p", {}, ...this.linked(line)))))));
+  }
+  private blank(title: string): void { this.element.replaceChildren(h("div", { className: "blank" }, icon("text", 30), h("h3", {}, title))); }
+
+  /** Names of events can be followed. */
+  private linked(line: string): (Node | string)[] {
+    const events = new Set(this.app.store.shown?.vertices.map(each => each.name));
+    return line.split(/([A-Za-z]\w*)/).map(part => (events.has(part) ? h("button", { className: "link", onclick: () => this.go(part) }, part) : part));
+  }
+  private go(name: string): void { this.app.pick({ kind: "event", name }); this.app.canvas.seek(name, true); }
+}
+
+/** The lines of `describe`: those on the model and its variables first, and then event by event. */
+export function groups_of(text: string): { title: string; lines: string[] }[] {
+  const [first, ...lines] = text.trimEnd().split("\n"), groups: { title: string; lines: string[] }[] = [{ title: first.replace(/^This is the model (.*)\.$/, "The model $1"), lines: [] }];
+  for (const line of lines) {
+    const event = /^Event (\w+) takes (no values\.$)?/.exec(line);
+    if (event) groups.push({ title: event[1], lines: event[2] ? [] : [line] });
+    else groups[groups.length - 1].lines.push(line);
+  }
+  return groups;
+}

@@ -1,0 +1,1 @@
+"""Browsers without a window, driven as a person does: by mouse and keys."""

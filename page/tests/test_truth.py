@@ -1,0 +1,168 @@
+"""No result belongs to another text than the one it stands beside, and nothing that one did is lost."""
+
+from __future__ import annotations
+
+import time
+
+from conftest import wait_for_model
+from drive.browser import Browser
+
+RUN = ".head-tools .primary"
+ARRIVE = "QUEUE := QUEUE + 1\ndraw GAP from 0 in 1.."
+ACCEPTED = "sigma.store.verdict.state === 'accepted'"
+
+
+def field(name: str) -> str:
+    """Return how a field of a form is found."""
+    return f'[data-field="{name}"]'
+
+
+def event(name: str) -> str:
+    """Return how an event of the graph is found."""
+    return f'.stage-pane [data-part="event:{name}"] .body'
+
+
+def text(page: Browser) -> str:
+    """Return the text of the model."""
+    return str(page.js("return sigma.store.doc.text"))
+
+
+def edit(page: Browser, before: str, after: str) -> None:
+    """Edit the text as typing would."""
+    page.js(
+        "sigma.store.edit(sigma.store.doc.text.replace(values[0], values[1]), 'Typing')",
+        before,
+        after,
+    )
+
+
+def test_run_from_a_field_runs_the_new_model(page: Browser) -> None:
+    """Run right after typing in a field, by mouse and by keys."""
+    page.click(event("ARRIVE"))
+    page.write(field("event:ARRIVE/changes"), ARRIVE + "4")
+    page.click(RUN)
+    page.until("sigma.run.result && sigma.run.result.made.snapshot.text.includes('in 1..4')")
+    assert not page.js("return document.querySelector('.run-tab .stale')")
+    page.write(field("event:ARRIVE/changes"), ARRIVE + "3")
+    page.chord("Control", "Enter")
+    page.until("sigma.run.result.made.snapshot.text.includes('in 1..3')")
+
+
+def test_run_right_after_typing_in_the_text(page: Browser) -> None:
+    """Ctrl+Enter while the text is still being checked runs what was typed."""
+    page.js("sigma.app.editor.go(sigma.store.doc.text.indexOf('1..6;'))")
+    page.chord("Shift", "End")
+    page.keys("1..5;")
+    page.chord("Control", "Enter")
+    page.until("sigma.run.result && sigma.run.result.made.snapshot.text.includes('1..5;')")
+
+
+def test_an_experiment_from_a_field_runs_the_new_model(page: Browser) -> None:
+    """The mean is that of the new model: with gaps of 1 to 4 the queue grows without end."""
+    page.click("#tab-experiments")
+    page.js("sigma.app.pick({ kind: 'event', name: 'ARRIVE' })")
+    page.write(field("event:ARRIVE/changes"), ARRIVE + "4")
+    page.js("sigma.command('experiment')")
+    page.until("sigma.experiments.outcomes.length && !sigma.experiments.busy()", 90)
+    mean = page.js(
+        "const { items, times } = sigma.experiments.outcomes[0].replicated.report;"
+        "return items.QUEUE.area.reduce((sum, area, k) => sum + area / times[k], 0) / times.length"
+    )
+    assert mean > 10
+
+
+def test_results_are_stale_after_an_edit(page: Browser) -> None:
+    """A run of another model than the text is marked, and is fresh again after Undo."""
+    page.click(RUN)
+    page.until("sigma.run.result")
+    edit(page, "3..9;", "3..8;")
+    page.until("document.querySelector('.run-tab .stale')")
+    page.js("sigma.store.undo()")
+    page.until("!document.querySelector('.run-tab .stale')")
+
+
+def test_experiments_are_stale_after_an_edit_and_not_after_a_comment(page: Browser) -> None:
+    """Comments change no model; another document has no results."""
+    page.click("#tab-experiments")
+    page.js("sigma.command('experiment')")
+    page.until("sigma.experiments.outcomes.length && !sigma.experiments.busy()", 90)
+    edit(page, "\nend\n", "\n# a comment\nend\n")
+    page.until(ACCEPTED)
+    time.sleep(0.2)
+    assert not page.js("return document.querySelector('.results .stale')")
+    edit(page, "3..9;", "3..8;")
+    page.until("document.querySelector('.results .stale')")
+    page.js("sigma.open_example('clinic')")
+    page.until("document.querySelector('.results .blank')")
+
+
+def test_a_form_shows_a_draft_or_the_model(page: Browser) -> None:
+    """What is refused stays in its field with the reason; mended, it is as the model says."""
+    page.click(event("LEAVE"))
+    page.write(field("event:LEAVE/changes"), "IDLE = IDLE + 1", "Tab")
+    page.until("document.querySelector('.field.bad')")
+    page.write(field("event:LEAVE/changes"), "IDLE := IDLE + 1", "Tab")
+    page.until("!document.querySelector('.field.bad')")
+    shown = page.js(f"return document.querySelector('{field('event:LEAVE/changes')}').value")
+    assert shown == "IDLE := IDLE + 1"
+
+
+def test_a_refused_value_is_tried_again_with_its_partner(page: Browser) -> None:
+    """A first value outside the range is right once the range is wider."""
+    page.js("sigma.app.pick(null)")
+    page.write(field("var:SERVICE/initial"), "30", "Tab")
+    page.until("document.querySelector('.field.bad')")
+    page.write(field("var:SERVICE/high"), "60", "Tab")
+    page.until("sigma.store.doc.text.includes('SERVICE : 3..60 = 30')")
+    page.until("!document.querySelector('.field.bad')")
+
+
+def test_the_focus_stays(page: Browser) -> None:
+    """A rename takes no click and no key from the field that one goes to."""
+    focused = "return document.activeElement.dataset.field"
+    page.click(event("ARRIVE"))
+    page.write(field("event:ARRIVE/name"), "COME")
+    page.click(field("event:ARRIVE/changes"))
+    page.until("sigma.store.doc.text.includes('vertex COME')")
+    page.until("document.activeElement.dataset.field === 'event:COME/changes'")
+    page.chord("Control", "End")
+    page.keys("\nIDLE := IDLE")
+    page.click(field("event:COME/name"))
+    page.until("sigma.store.doc.text.includes('IDLE := IDLE')")
+    page.write(field("event:COME/name"), "ARRIVE", "Enter")
+    page.until("sigma.store.doc.text.includes('vertex ARRIVE')")
+    page.until("document.activeElement.dataset.field")
+    assert page.js(focused) == "event:ARRIVE/name"
+
+
+def test_a_view_keeps_the_run(page: Browser) -> None:
+    """How the graph is turned is no part of the model."""
+    page.click(RUN)
+    page.until("sigma.run.result")
+    page.js("sigma.run.step(5)")
+    page.js("sigma.command('sideways')")
+    time.sleep(0.8)
+    assert not page.js("return document.querySelector('.run-tab .stale')")
+    page.until("document.querySelector('.node.lit')")
+
+
+def test_bad_settings_are_marked(page: Browser) -> None:
+    """Numbers are read as people write them; what is none is marked, and nothing runs."""
+    page.write('.run-tab [data-setting="events"]', "1e6", "Tab")
+    shown = page.js("return document.querySelector('.run-tab [data-setting=events]').value")
+    assert shown == "1,000,000"
+    page.write('.run-tab [data-setting="seed"]', "x")
+    page.click(RUN)
+    page.until("document.querySelector('.run-tab [data-setting=seed][aria-invalid]')")
+    assert not page.js("return sigma.run.result")
+
+
+def test_undo_past_open_brings_the_file_back(page: Browser) -> None:
+    """The name, the settings and what is saved belong to the document."""
+    edit(page, "\nend\n", "\n# more\nend\n")
+    page.js("sigma.open_example('clinic')")
+    page.until(f"{ACCEPTED} && sigma.store.doc.file === 'clinic.sigma'")
+    page.click('[aria-label^="Undo"]')
+    page.until(f"{ACCEPTED} && sigma.store.doc.file === 'bank.sigma'")
+    assert page.js("return document.querySelector('.doc-state').textContent") == "Edited"
+    wait_for_model(page)
