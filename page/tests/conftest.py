@@ -76,6 +76,8 @@ def page(window: Browser, address: str) -> Iterator[Browser]:
     window.complaints()
     window.open(address)
     wait_for_model(window)
+    # In a window of this width the text is folded away at first.
+    window.js("sigma.app.show_text()")
     yield window
     assert window.complaints() == []
 

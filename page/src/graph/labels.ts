@@ -55,7 +55,7 @@ export function place_labels(wanted: readonly Wanted[], nodes: readonly Box[], l
   for (const i of order) {
     const label = wanted[i], { samples, width, height, line } = label, centre = label.near ?? samples[samples.length >> 1] ?? { x: 0, y: 0 };
     let best = centre, least = Infinity;
-    for (const at of candidates(label)) {
+    for (const at of label.near ? [label.near, ...candidates(label)] : candidates(label)) {
       const box = { ...at, width, height };
       let cost = Math.hypot(at.x - centre.x, at.y - centre.y) * 1.5;
       if (cost >= least) continue;

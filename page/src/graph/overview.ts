@@ -37,16 +37,14 @@ export class Overview {
   }
 
   private box({ name, members, box, pending, lit, selected }: Seen, k: number): SVGElement {
-    const width = Math.max(18, box.width * k), height = Math.max(14, box.height * k), x = box.x * k - width / 2, y = box.y * k - height / 2, room = width - 16;
-    const rows = Math.max(0, Math.floor((height - 12) / LINE)), says = `${members.length} event${members.length === 1 ? "" : "s"}${pending ? `, ${pending} pending` : ""}`;
-    const names = rows > 2 ? members.slice(0, rows - 2) : [], rest = members.length - names.length;
-    const text = (words: string, row: number, kind: string): SVGElement => s("text", { class: kind, x: x + 8, y: y + 17 + row * LINE }, cut(words, room, kind === "title" ? BOLD : PLAIN));
-    const is_wide = width > 70 && rows > 2;
+    const width = Math.max(18, box.width * k), height = Math.max(14, box.height * k), x = box.x * k - width / 2, y = box.y * k - height / 2, room = width - 14;
+    // Its first event names it; below are how many are pending, and as many of its other events as there is room for.
+    const rows = Math.max(0, Math.floor((height - 10) / LINE)), says = `${members.length} event${members.length === 1 ? "" : "s"}${pending ? `, ${pending} pending` : ""}`, waits = pending ? `${pending} pending` : "";
+    const others = members.slice(1), free = rows - 1 - (waits ? 1 : 0), names = free >= others.length ? others : others.slice(0, Math.max(0, free - 1)), rest = others.length - names.length;
+    const text = (words: string, row: number, kind: string): SVGElement => s("text", { class: kind, x: x + 8, y: y + 16 + row * LINE }, cut(words, room, kind === "title" ? BOLD : PLAIN));
     return s("g", { class: `group-box${lit ? " lit" : ""}${selected ? " selected" : ""}`, "data-group": name }, s("title", {}, `${name}: ${says}\n${members.join(", ")}`),
       s("rect", { x, y, width, height, rx: Math.min(10, height / 3) }),
-      rows > 0 && room > 20 ? text(lit || (is_wide ? says : name), 0, "title") : null,
-      rows > 1 && !is_wide && room > 20 ? text(says, 1, "says") : null,
-      ...(is_wide ? names.map((each, i) => text(each, i + 1, each === lit ? "title" : "says")) : []),
-      is_wide && rest > 0 ? text(`and ${rest} more`, names.length + 1, "says") : null);
+      ...(room < 20 || rows < 1 ? [] : [text(lit || name, 0, "title"), waits && rows > 1 ? text(waits, 1, "waits") : null,
+        ...names.map((each, i) => text(each === lit ? name : each, i + 1 + (waits ? 1 : 0), "says")), rest > 0 && free > 0 ? text(`+ ${rest} more`, names.length + 1 + (waits ? 1 : 0), "says") : null]));
   }
 }

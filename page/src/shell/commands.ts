@@ -59,6 +59,8 @@ export function add_commands({ app, files, drawing, inspector, experiments, redu
     { id: "new-event", title: "New event", keys: "N", icon: "plus", group: "Edit", run: () => void drawing.create(null) },
     { id: "new-edge", title: "New edge from here …", keys: "E", icon: "edge", group: "Edit", can: () => app.picked?.kind === "event", run: () => drawing.ask_edge() },
     { id: "duplicate", title: "Duplicate", keys: "Ctrl+D", icon: "copy", group: "Edit", can: () => app.picked?.kind === "event", run: () => void drawing.duplicate() },
+    ...([["align-row", "Side by side"], ["align-column", "Below each other"], ["spread-row", "Equal spaces, side by side"], ["spread-column", "Equal spaces, below each other"]] as const).map(([id, title]) =>
+      ({ id, title, group: "Edit", can: () => app.more.length > 1, run: () => app.canvas.align(app.more, id.replace("align-", "") as "row") })),
     { id: "edit-form", title: "Edit in the form", keys: "F2", icon: "form", group: "Edit", can: has_pick, run: () => { app.show_part("form", false); inspector.focus_first(); } },
     { id: "delete", title: "Delete", keys: "Del", icon: "trash", group: "Edit", can: has_pick, run: () => void inspector.remove() },
     { id: "number", title: "New number variable", group: "Edit", can: has_model, run: () => void inspector.add_variable(false) },
