@@ -8,7 +8,7 @@ set -l words
 set -l texts
 # share/make writes from share/commands: commands of fish
 set -l lines \
-    'check|Says whether a text is a model, or where it is not and why' \
+    'check|Says whether a text is a model, or where it isn'\''t and why' \
     'print|Writes a model in its one fixed layout' \
     'describe|Writes a model in English' \
     'uses|Lists which events read and write each variable' \
@@ -17,7 +17,7 @@ set -l lines \
     'replicate|Runs it many times, and writes a table' \
     'save|Runs it for so many events, and keeps the run' \
     'resume|Continues a saved run' \
-    'reduce|Takes out of a model what it does not need' \
+    'reduce|Takes out of a model what it doesn'\''t need' \
     'certify|Checks a reduction that another program or a person made' \
     'fuse|Merges duplicated vertices' \
     'narrow|Declares ranges that no run leaves' \
@@ -36,7 +36,7 @@ complete -c sigma -n '__sigma_option seed run replicate save trial' -l seed -x -
 complete -c sigma -n '__sigma_option vertices trial' -l vertices -x -d 'How many vertices the model has'
 complete -c sigma -n '__sigma_option events run replicate save resume trial' -l events -x -d 'The most events that are made'
 complete -c sigma -n '__sigma_option runs replicate' -l runs -x -d 'How many runs are made'
-complete -c sigma -n '__sigma_option stride replicate' -l stride -x -d 'From one run's seed to the next, else 1'
+complete -c sigma -n '__sigma_option stride replicate' -l stride -x -d 'From one run'\''s seed to the next, else 1'
 complete -c sigma -n '__sigma_option start run replicate save' -l start -x -d 'As --start=-3,4'
 complete -c sigma -n '__sigma_option room run resume' -l room -x -d 'Pending events with room, else 4096'
 # By hand.

@@ -66,7 +66,14 @@ def test_two_packs_are_the_same_bytes(packable: SmallCheckout) -> None:
     assert pack(packable, "first").status == 0
     other = packable.folder / "another folder"
     shutil.copytree(packable.top, other, symlinks=True)
-    again = ["sh", "-c", 'umask 077; "$1/pack" "$2"', "sh", other, packable.folder / "second"]
+    again: list[str | Path] = [
+        "sh",
+        "-c",
+        'umask 077; "$1/pack" "$2"',
+        "sh",
+        other,
+        packable.folder / "second",
+    ]
     subprocess.run(again, check=True, env=packable.environment(), capture_output=True)
     for name in (ARCHIVE, PACKAGE, "SHA256SUMS"):
         first, second = packable.folder / "first" / name, packable.folder / "second" / name
