@@ -246,3 +246,17 @@ def test_the_note_describes_the_bytes(checkout: SmallCheckout) -> None:
         told["sources"] == checkout.sum_of_sources() == Path(program.parent).name[len("proved.") :]
     )
     assert (told["kit"], told["verdict"]) == (KIT, VERDICT)
+
+
+def test_a_tool_builds_nothing(checkout: SmallCheckout) -> None:
+    """A tool beside the sources takes the program that answers the launcher, or says that none does."""
+    shutil.copytree(TOP / "tools", checkout.top / "tools")
+    tool = checkout.top / "tools/whyfault"
+    model = str(TOP / "examples/desk.sigma")
+    words = (model, "--until", "30", "--seed", "7")
+    checkout.give_kit()
+    line = "whyfault: no program is there: ./sigma builds one"
+    checkout.call(*words, command=tool).refuses(1, line)
+    assert checkout.builds() == 0
+    checkout.give_dist()
+    assert checkout.call(*words, command=tool).errors != line.encode() + b"\n"

@@ -23,15 +23,15 @@ wrong_words() {
 }
 
 # find_program: sets `program` to the program: that of SIGMA, else `sigma` beside the folder of the tools, else that of PATH. Beside
-# the sources it is what ./sigma built there; a tool builds nothing.
+# the sources it is the one that answers ./sigma; a tool builds nothing.
 find_program() {
     program=${SIGMA:-${tools%/*}/sigma}
     [ -n "${SIGMA-}" ] || [ -x "$program" ] || program=$(command -v sigma) ||
         no_answer "no program: SIGMA names none, and sigma is neither beside $tools nor in PATH"
     command -v "$program" >/dev/null || no_answer "no program: $program can't be run"
     [ -z "${SIGMA-}" ] && [ "$program" = "${tools%/*}/sigma" ] && [ -f "${tools%/*}/crates.txt" ] || return 0
-    program=${tools%/*}/crates/sigma_cli/out/sigma_cli
-    [ -x "$program" ] || no_answer "not built: ./sigma builds it (half an hour), ./first-look answers in two minutes"
+    program=$("$program" --which | sed -n 's/^program //p')
+    [ -x "$program" ] || no_answer "no program is there: ./sigma builds one"
 }
 
 # library: the text of the tools' awk functions, after which a tool puts its own: awk "$(library)"'..'.
