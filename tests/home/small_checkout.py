@@ -34,14 +34,16 @@ esac
 echo began >>"{folder}/calls"
 while [ -e "{folder}/wait" ]; do sleep 0.05; done
 [ ! -e "{folder}/fail" ] || exit 1
-echo "== {crate}"
-echo "{verdict}"
-echo "rt: {crate} proved"
+cat <<\\END
+{said}
+END
 mkdir -p crates/{crate}/out
 {{ cat "{program}" && cat {source}; }} >crates/{crate}/out/{crate}
 chmod 755 crates/{crate}/out/{crate}
 """
 VERDICT = "logic=proved functions=1 sum=12ab native=nat"
+PROVED = f"== {CRATE}\n{VERDICT}\nrt: {CRATE} proved"
+KEPT = f"rt: {CRATE} is kept: an earlier run on this machine proved the same files"
 
 
 def sha256(path: Path) -> str:
@@ -89,13 +91,13 @@ class SmallCheckout:
         """Write the one source."""
         (self.top / SOURCE).write_text(text)
 
-    def give_kit(self, verdict: str = VERDICT, name: str = KIT) -> None:
-        """Put the stand-in for `rt` into PATH."""
+    def give_kit(self, said: str = PROVED, name: str = KIT) -> None:
+        """Put the stand-in for `rt` into PATH, which says this when it proves."""
         text = STAND_IN.format(
             kit=name,
             folder=self.kit,
             crate=CRATE,
-            verdict=verdict,
+            said=said,
             program=self.program,
             source=f"crates/{CRATE}/src/main.rt",
         )

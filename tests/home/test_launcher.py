@@ -9,7 +9,7 @@ from pathlib import Path
 
 import pytest
 
-from home.small_checkout import KIT, SOURCE, VERDICT, SmallCheckout, sha256
+from home.small_checkout import CRATE, KEPT, KIT, SOURCE, VERDICT, SmallCheckout, sha256
 from support.places import TOP, stored_answer
 
 REDUCED = stored_answer("one.reduce")
@@ -105,9 +105,17 @@ def test_a_build_that_fails(checkout: SmallCheckout) -> None:
 
 def test_a_build_without_a_verdict_is_not_kept(checkout: SmallCheckout) -> None:
     """No program counts as proved without the prover's line."""
-    checkout.give_kit(verdict="logic=not-proved")
+    checkout.give_kit(f"== {CRATE}\nlogic=not-proved functions=1\nrt: {CRATE} NOT PROVED")
     assert checkout.call("reduce").status == 126
     assert checkout.which()[0] == 3
+
+
+def test_what_the_kit_kept_counts_as_proved(checkout: SmallCheckout) -> None:
+    """A kit that proved the same files before gives no new verdict."""
+    checkout.give_kit(KEPT)
+    assert checkout.call("reduce").output == REDUCED
+    status, told = checkout.which()
+    assert (status, told["verdict"]) == (0, KEPT.removeprefix("rt: "))
 
 
 def test_a_program_that_answers_wrongly_is_not_kept(checkout: SmallCheckout) -> None:

@@ -7,7 +7,7 @@ from pathlib import Path
 
 import pytest
 
-from home.small_checkout import KIT, VERDICT, SmallCheckout, sha256
+from home.small_checkout import CRATE, KEPT, KIT, VERDICT, SmallCheckout, sha256
 from support.places import TOP
 from support.program import Answer
 
@@ -112,6 +112,31 @@ def test_nothing_is_released_that_is_not_proved(gate: SmallCheckout) -> None:
     gate.write_source("fn main() {} // second\n")
     assert release(gate, "--program-only").status == 1
     assert not (gate.top / "dist").exists()
+
+
+@pytest.mark.parametrize("has_libraries", [True, False])
+def test_a_program_that_the_kit_kept(gate: SmallCheckout, has_libraries: bool) -> None:
+    """The prover looks at it again, and without its verdict nothing is released."""
+    (gate.top / "crates/low/src").mkdir(parents=True)
+    (gate.top / "crates/low/src/lib.rt").write_text("")
+    (gate.top / "crates.txt").write_text(f"low:\n{CRATE}: low\n")
+    gate.give_kit(KEPT)
+    assert run_gate(gate)[0] == 0
+    if has_libraries:
+        library = gate.top / "crates/low/out/rlib/low.rlib"
+        library.parent.mkdir(parents=True)
+        library.write_text("")
+    rattle = gate.kit / "bin/rattle"
+    write_script(rattle, f'test "$1" = check && echo "{VERDICT}"')
+    before = gate.builds()
+    assert release(gate, "--program-only").status == 0
+    assert told(gate)["verdict"] == VERDICT
+    # Without the libraries of the gate, those that the kit keeps are asked for.
+    assert gate.builds() == before + (0 if has_libraries else 1)
+    write_script(rattle, f'echo "{VERDICT}"', "exit 1")
+    assert release(gate, "--program-only").status == 1
+    write_script(rattle, 'echo "logic=not-proved functions=1 sum=12ab"')
+    assert release(gate, "--program-only").status == 1
 
 
 def test_a_release_by_another_kit(gate: SmallCheckout) -> None:
