@@ -27,23 +27,14 @@ sys.path.insert(0, str(TOP / "lab"))
 from sigma_lab import cli  # noqa: E402
 from sigma_lab.command import Command  # noqa: E402
 
-# Commands of a module that reads its words itself, which replace no tool.
-_NEW = ("lint", "new")
 
-
-def _commands() -> Iterator[tuple[str, str, tuple[str, ...]]]:
-    """Name, sentence, and the tools that it replaces, of each command."""
-    for name in cli.MODULES:
-        try:
-            command: Command = cli.command_of(name)
-            yield name, command.about, command.replaces
-        except AttributeError:
-            yield name, cli._about(name), () if name in _NEW else (name,)
+def _commands() -> Iterator[Command]:
+    return (cli.command_of(name) for name in cli.MODULES)
 
 
 def replaced() -> dict[str, str]:
     """The command of each older tool."""
-    return {tool: name for name, _, tools in _commands() for tool in tools}
+    return {tool: each.name for each in _commands() for tool in each.replaces}
 
 
 def _help(name: str) -> str:
@@ -55,7 +46,7 @@ def _help(name: str) -> str:
 
 def commands_part() -> str:
     """A table of the commands."""
-    rows = [f"| [`{name}`](#{name}) | {about} |" for name, about, _ in _commands()]
+    rows = [f"| [`{each.name}`](#{each.name}) | {each.about} |" for each in _commands()]
     return "\n".join(["", "| command | for |", "|---|---|", *rows, "", ""])
 
 
@@ -68,7 +59,7 @@ def tools_part() -> str:
 def options_part() -> str:
     """The help of each command."""
     made = ""
-    for name, _, _ in _commands():
+    for name in cli.MODULES:
         lines = _help(name).rstrip("\n").splitlines()
         text = "\n".join(f"    {line}".rstrip() for line in lines)
         made += f"\n### {name}\n\n{text}\n"
