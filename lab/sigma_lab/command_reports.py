@@ -90,10 +90,14 @@ def _means(args: argparse.Namespace, answer: Answer) -> None:
             here = report.predict(what, confidence_level=level)
             add_estimate(answer, f"{name} one further run", here, measure=what.label)
     if len(reports) > 1:
-        from .experiments import compare_reports
+        from .comparisons import compare_reports
 
         table = compare_reports(
-            reports, what, against=args.against, paired=not args.unpaired, confidence_level=level
+            reports,
+            what,
+            against=args.against,
+            paired=not args.unpaired,
+            confidence_level=level,
         )
         answer.table(table)
 

@@ -10,11 +10,11 @@ What is read is canonical: `write(read(data)) == data` for every report of whole
 from __future__ import annotations
 
 import re
-from collections.abc import Iterable, Sequence
+from collections.abc import Callable, Iterable, Sequence
 from dataclasses import dataclass
 from fractions import Fraction
 from itertools import chain, repeat
-from operator import le, mul
+from operator import le, methodcaller, mul
 from typing import NoReturn
 
 from .errors import BadReport
@@ -103,10 +103,11 @@ class _Reader:
     def read(self) -> Columns:
         if not self.lines:
             self.refuse(0, "totals of no run" if self.totals else "it has no run")
-        for number, text in enumerate(self.lines):
-            if text.count(b",") != 9 or text[-1:] == b"\r":
-                self.refuse(number, _why_no_row(text))
         flat = b",".join(self.lines).split(b",")
+        if set(map(_commas, self.lines)) != {9} or any(map(_has_return, flat[9::10])):
+            for number, text in enumerate(self.lines):
+                if _commas(text) != 9 or _has_return(text):
+                    self.refuse(number, _why_no_row(text))
         run, seed, outcome, time, item, *columns = (flat[at::10] for at in range(10))
         width = next((k for k, number in enumerate(run) if number != b"1"), len(run))
         items = self._items(run, item, width)
@@ -175,7 +176,7 @@ class _Reader:
         """The numbers of a column whose k-th field is in row `k * width + at`."""
         try:
             whole = list(map(int, column))
-            if [b"%d" % number for number in whole] == list(column):
+            if list(map(b"%d".__mod__, whole)) == column:
                 return list(whole)
         except ValueError:
             pass
@@ -211,36 +212,43 @@ class _Reader:
     # What the numbers may be
 
     def _check_limits(self, made: Columns, width: int) -> None:
-        for run, (seed, time) in enumerate(zip(made.seeds, made.times)):
-            if not (0 <= seed <= _MOST_SEED and 0 <= time <= _MOST_TIME):
+        limits: tuple[tuple[Sequence[Number], int], ...] = (
+            (made.seeds, _MOST_SEED),
+            (made.times, _MOST_TIME),
+        )
+        for column, most in limits:
+            if min(column) < 0 or max(column) > most:
+                run = next(k for k, number in enumerate(column) if not 0 <= number <= most)
                 self.refuse(run * width, "the seed or the time is outside its limits")
 
     def _check_item(self, made: Columns, at: int, width: int) -> None:
         values, times = made.values[at], made.times
         names = tuple(values)
 
-        def check(good: Iterable[bool], message: str) -> None:
-            bad = next((run for run, is_good in enumerate(good) if not is_good), None)
-            if bad is not None:
-                self.refuse(bad * width + at, message)
+        def check(good: Callable[[], Iterable[bool]], message: str) -> None:
+            if not all(good()):
+                self.refuse(list(good()).index(False) * width + at, message)
+
+        def between(low: int, column: list[Number], high: int, message: str) -> None:
+            if min(column) < low or max(column) > high:
+                check(lambda: (low <= number <= high for number in column), message)
 
         if names == ("count",):
-            check(
-                (0 <= c <= _MOST_COUNT for c in values["count"]), "the count is outside its limits"
-            )
+            between(0, values["count"], _MOST_COUNT, "the count is outside its limits")
         elif names == _VARIABLE:
             least, greatest, last, area = (values[name] for name in _VARIABLE)
             for column in (last, area, times):
-                whole = (type(value) is int for value in column)
-                check(whole, "decimals are for rows without least and greatest value")
+                if Fraction in set(map(type, column)):
+                    outside = "decimals are for rows without least and greatest value"
+                    check(lambda: (type(number) is int for number in column), outside)
             outside = "the last value isn't from the least to the greatest one"
-            check(map(le, least, last), outside)
-            check(map(le, last, greatest), outside)
-            check((-(2**63) <= value for value in least), outside)
-            check((value < 2**63 for value in greatest), outside)
+            check(lambda: map(le, least, last), outside)
+            check(lambda: map(le, last, greatest), outside)
+            between(-(2**63), least, 2**63 - 1, outside)
+            between(-(2**63), greatest, 2**63 - 1, outside)
             outside = "the area isn't from the least to the greatest value times the time"
-            check(map(le, map(mul, least, times), area), outside)
-            check(map(le, area, map(mul, greatest, times)), outside)
+            check(lambda: map(le, map(mul, least, times), area), outside)
+            check(lambda: map(le, area, map(mul, greatest, times)), outside)
         elif not names or not set(names) <= set(_WITH_DECIMALS):
             self.refuse(at, f"{made.items[at]} has no such set of columns")
 
@@ -298,6 +306,10 @@ def _totals(values: dict[str, list[Number]]) -> list[bytes]:
         else:
             made.append(number_text(sum(rows)).encode())
     return made
+
+
+_commas = methodcaller("count", b",")
+_has_return = methodcaller("endswith", b"\r")
 
 
 def _why_no_row(text: bytes) -> str:
