@@ -16,7 +16,7 @@ from .measures import EventMeasure, Measure
 from .measures import measure as read_measure
 from .narrowing import Goal, needed_runs
 from .plan import Plan
-from .ranges import Ranges, Stated
+from .ranges import Ranges, Stated, check_inside
 from .report import Report
 
 FEWEST_FIRST = 50
@@ -134,6 +134,7 @@ def _look(
     numbers = np.asarray(comparisons.plain(sample), dtype=float)
     if sample.below is None:
         ends = sorted((above[0] * sample.scale, above[1] * sample.scale))
+        check_inside(numbers, (ends[0], ends[1]), measure.label)
         return here, numbers, (ends[0], ends[1])
     # A run moves the ratio r by (a - r b) / mean(b), nearly.
     under = float(np.asarray(sample.below, dtype=float).mean())
