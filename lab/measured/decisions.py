@@ -2,13 +2,12 @@
 
     python3 lab/measured/decisions.py
 
-Each series of runs is one whole decision, as `search`, `select_best` and `run_until_precise` make it.  The truth lies
+Each series of runs is one whole decision, as `search` and `select_best` make it.  The truth lies
 just beyond the bound, which is where a decision errs most often.
 """
 
 from __future__ import annotations
 
-import math
 import sys
 from pathlib import Path
 
@@ -19,10 +18,8 @@ sys.path.insert(0, str(Path(__file__).resolve().parents[1]))
 from laws import LAWS, Floats, Law  # noqa: E402
 from rows import Row, keep, row  # noqa: E402
 
-from sigma_lab import estimators  # noqa: E402
 from sigma_lab.choosing import Contest  # noqa: E402
 from sigma_lab.measures import Sample, item  # noqa: E402
-from sigma_lab.narrowing import Goal, needed_runs  # noqa: E402
 from sigma_lab.targets import Limits, Sense, Target, decide  # noqa: E402
 
 SERIES = 1000
@@ -109,26 +106,6 @@ def selections(law: Law, designs: int) -> Row:
     return row(f"best of {designs}", law.name, round(np.mean(took)), 5, wrong, note)
 
 
-def precisions(law: Law, relative: float) -> Row:
-    """An interval that is narrow enough misses the mean."""
-    goal, bounds = Goal(relative=relative), (law.least, law.greatest)
-    wrong, took = [], []
-    for series in range(SERIES // 2):
-        values = law.draw(np.random.default_rng(series), 60_000)
-        runs = 50
-        while True:
-            made = estimators.mean(values[:runs], bounds=bounds)
-            need = needed_runs(made, values[:runs], bounds, goal.of(made.value))
-            if need <= runs:
-                break
-            more = max(need, runs + runs // 20, runs + 5)
-            runs = math.ceil(min(more, 2 * runs, len(values)))
-        wrong.append(not made.low <= 1 <= made.high)
-        took.append(runs)
-    name = f"precise to {relative:.0%}, misses the mean"
-    return row(name, law.name, round(np.mean(took)), 5, wrong)
-
-
 def main() -> None:
     """Measures all of it, and keeps it."""
     rows: list[Row] = []
@@ -136,7 +113,6 @@ def main() -> None:
         rows += targets(law)
         rows.append(searches(law))
         rows += [selections(law, designs) for designs in (2, 5)]
-        rows += [precisions(law, relative) for relative in (0.1, 0.3)]
     keep("decisions", rows)
 
 

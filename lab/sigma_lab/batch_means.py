@@ -18,7 +18,7 @@ import numpy as np
 from numpy.typing import NDArray
 
 from .errors import NoEstimate
-from .estimates import Estimate, Floats, finite, sample_quantile
+from .estimates import Estimate, Floats, finite, sample_quantile, skewness
 from .estimators import pseudovalues, skewed_t, student_t
 
 Areas = Callable[[NDArray[np.int64]], NDArray[Any]]
@@ -246,15 +246,13 @@ def _answer(
     layout: Layout,
     confidence_level: float,
 ) -> Batches:
-    from scipy import stats
-
     count = layout.count
-    skewness, t = float(stats.skew(means)), student_t(count - 1, confidence_level)
+    skew, t = skewness(means), student_t(count - 1, confidence_level)
     begin, length = layout.begin * layout.grain, layout.length * layout.grain
     made = Estimate(
         value,
-        value - skewed_t(t, skewness, count) * error,
-        value - skewed_t(-t, skewness, count) * error,
+        value - skewed_t(t, skew, count) * error,
+        value - skewed_t(-t, skew, count) * error,
         error,
         count,
         count - 1,

@@ -22,8 +22,6 @@ from .estimates import Estimate, Floats, finite, order, risk_of
 from .estimators import pseudovalues, ratio, student_t
 
 if TYPE_CHECKING:
-    import pandas as pd
-
     from .observations import Observations
 
 
@@ -281,22 +279,3 @@ class _WeightedQuantile:
             return math.nan
         place = order(int(below[-1]), self.p) + 1
         return float(self.values[int(np.searchsorted(below, place))])
-
-
-def by_run(
-    observations: Observations, quantiles: tuple[float, ...] = (), limits: tuple[float, ...] = ()
-) -> pd.DataFrame:
-    """A row for each run with values: its seed, how many, their mean, quantiles, and shares up to `limits`."""
-    import pandas as pd
-
-    scale, rows = observations.scale, []
-    values = finite(observations.value) * scale
-    edges = np.searchsorted(observations.run, np.arange(observations.runs + 1))
-    for number, (begin, end) in enumerate(zip(edges[:-1], edges[1:]), 1):
-        mine = np.sort(values[begin:end])
-        if len(mine):
-            row = {"run": number, "seed": observations.seeds[number - 1], "values": len(mine)}
-            row |= {"mean": mine.mean()}
-            row |= {f"quantile {p:g}": mine[order(len(mine), p)] for p in quantiles}
-            rows.append(row | {f"at most {x:g}": (mine <= x).mean() for x in limits})
-    return pd.DataFrame(rows)

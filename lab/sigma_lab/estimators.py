@@ -18,7 +18,7 @@ import numpy as np
 from numpy.typing import ArrayLike, NDArray
 
 from .errors import InputError, NoEstimate
-from .estimates import UNBOUNDED, Bounds, Estimate, Floats, finite, order, risk_of
+from .estimates import UNBOUNDED, Bounds, Estimate, Floats, finite, order, risk_of, skewness
 
 if TYPE_CHECKING:
     from .measures import Sample
@@ -112,25 +112,21 @@ def mean(
 
 def _moments(average: float, more: Floats, level: float, is_skewed: bool) -> Estimate:
     """The interval by the standard deviation, and by the skewness too if `is_skewed`."""
-    from scipy import stats
-
     n = len(more)
     error = float(more.std(ddof=1) / math.sqrt(n))
     t = student_t(n - 1, level)
-    skewness = float(stats.skew(more))
+    skew = skewness(more)
     low = high = t
     if is_skewed:
-        unbiased = skewness * math.sqrt(n * (n - 1)) / (n - 2)
+        unbiased = skew * math.sqrt(n * (n - 1)) / (n - 2)
         low, high = skewed_t(t, unbiased, n), -skewed_t(-t, unbiased, n)
     name = "Willink" if is_skewed else "Student's t"
     made = Estimate(
         average, average - low * error, average + high * error, error, n, n - 1, name, level
     )
     # Boos and Hughes-Oliver 2000: the t interval needs some 100 (skewness / 2)^2 values; Willink's a fifth.
-    need = math.ceil((5 if is_skewed else 25) * skewness**2)
-    return made.warn(
-        f"skewed values (skewness {skewness:.1f}): take {need} runs" if n < need else ""
-    )
+    need = math.ceil((5 if is_skewed else 25) * skew**2)
+    return made.warn(f"skewed values (skewness {skew:.1f}): take {need} runs" if n < need else "")
 
 
 def student_t(df: float, confidence_level: float) -> float:
@@ -140,9 +136,9 @@ def student_t(df: float, confidence_level: float) -> float:
     return float(special.stdtrit(df, 1 - risk_of(confidence_level) / 2))
 
 
-def skewed_t(t: float, skewness: float, n: int) -> float:
+def skewed_t(t: float, skew: float, n: int) -> float:
     """The quantile `t` of Student's t, moved by the skewness of n values (Willink 2005, equation 10)."""
-    slope = skewness / 6 / math.sqrt(n)
+    slope = skew / 6 / math.sqrt(n)
     if abs(slope) < 1e-6:
         return t
     return float(np.cbrt(1 + 6 * slope * (t - slope)) - 1) / (2 * slope)

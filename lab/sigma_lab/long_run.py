@@ -226,7 +226,7 @@ def long_run(
         raise InputError("an item or an event is needed")
     made = LongRun(items, events, plan.warm_up)
     bare = plan.change(warm_up=0)
-    made.read(replication._blocks(replication.ready(model), bare, number), "sigma run")
+    made.read(replication.blocks(replication.ready(model), bare, number), "sigma run")
     if made.outcome in ("fault", "budget") and plan.on_cut == "raise":
         raise IncompleteRuns(f"the run was cut off: {made.outcome} at {made.end}")
     return made

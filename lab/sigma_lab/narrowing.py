@@ -1,5 +1,6 @@
 """When an interval is narrow enough, and how many more runs it needs.
 
+An interval that is looked at until it is narrow is narrow by chance too often, so it is widened a little.
 Three things have to hold, since few runs may look calm by chance: the interval reaches no farther than the goal; what
 wasn't seen, times the share of runs that may have it, moves the mean no farther than the goal; and there are enough runs
 for the skewness that was seen.
@@ -15,7 +16,10 @@ import math
 from dataclasses import dataclass
 
 from .errors import InputError
-from .estimates import Bounds, Estimate, Floats, risk_of
+from .estimates import Bounds, Estimate, Floats, risk_of, skewness
+
+WIDENED = 0.75
+"""An interval that stops runs when it looks narrow is made at this part of the risk, to make up for that."""
 
 RUNS_BY_SKEWNESS = 5
 """Willink's interval takes this many runs times the square of the skewness."""
@@ -53,6 +57,11 @@ class Goal:
         return self.relative / (1 + self.relative) * abs(value)
 
 
+def inner_level(confidence_level: float) -> float:
+    """The level at which an interval is made that stops runs, so that it holds at `confidence_level`."""
+    return 1 - WIDENED * risk_of(confidence_level)
+
+
 def needed_runs(made: Estimate, numbers: Floats, bounds: Bounds, goal: float) -> float:
     """How many runs the goal takes, as far as these runs tell; no more than were made if it is reached.
 
@@ -65,8 +74,6 @@ def needed_runs(made: Estimate, numbers: Floats, bounds: Bounds, goal: float) ->
     bounds : (float, float)
         The least and the greatest that a number of a run can be.
     """
-    from scipy import stats
-
     if goal <= 0:
         return math.inf
     n = len(numbers)
@@ -77,8 +84,7 @@ def needed_runs(made: Estimate, numbers: Floats, bounds: Bounds, goal: float) ->
     by_interval = n * (reach / goal) ** 2 * 1.02 if reach > goal else 0.0
     farthest = max(bounds[1] - made.value, made.value - bounds[0])
     by_unseen = -math.log(risk / 2) * farthest / goal
-    skewness = float(stats.skew(numbers)) if numbers.std() > 0 else 0.0
-    by_skewness = RUNS_BY_SKEWNESS * skewness**2
+    by_skewness = RUNS_BY_SKEWNESS * skewness(numbers) ** 2
     if by_skewness > n:
         by_skewness = max(by_skewness, 1.5 * n)
     return max(by_interval, by_unseen, by_skewness)

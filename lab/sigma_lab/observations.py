@@ -60,11 +60,13 @@ class Observations:
 
         A quantile is the least value that the share of the run's values doesn't exceed.
         """
+        from .estimates import sample_quantile
+
         groups = self.to_frame().groupby("run")["value"]
         table = groups.agg(values="size", mean="mean")
         table.insert(0, "seed", self.seeds[table.index - 1])
         for p in quantiles:
-            table[f"q{p:g}"] = groups.quantile(p, interpolation="higher")
+            table[f"q{p:g}"] = groups.agg(lambda values, p=p: sample_quantile(values, p))
         for limit in limits:
             table[f"<={limit:g}"] = groups.agg(lambda values, limit=limit: (values <= limit).mean())
         return table

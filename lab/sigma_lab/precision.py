@@ -4,7 +4,7 @@ from __future__ import annotations
 
 import math
 from collections.abc import Mapping
-from dataclasses import dataclass
+from dataclasses import dataclass, replace
 from typing import Any
 
 import numpy as np
@@ -14,9 +14,9 @@ from .errors import GoalMissed, InputError
 from .estimates import Bounds, Estimate, Floats
 from .measures import EventMeasure, Measure
 from .measures import measure as read_measure
-from .narrowing import Goal, needed_runs
+from .narrowing import Goal, inner_level, needed_runs
 from .plan import Plan
-from .ranges import Ranges, Stated
+from .ranges import Ranges, Stated, check_inside
 from .report import Report
 
 FEWEST_FIRST = 50
@@ -115,10 +115,12 @@ def run_until_precise(
         )
         report = more if report is None else report.concat(more)
         looks, done = looks + 1, len(report)
-        here, numbers, ends = _look(wanted, report, above, below, confidence_level)
+        here, numbers, ends = _look(wanted, report, above, below, inner_level(confidence_level))
         need = needed_runs(here, numbers, ends, goal.of(here.value))
         if need <= done:
-            return Precise(here, report, looks)
+            method = f"{here.method}, widened for stopping"
+            made = replace(here, confidence_level=confidence_level, method=method)
+            return Precise(made, report, looks)
         if done >= most:
             said = "many more" if math.isinf(need) else f"{math.ceil(need)}"
             raise GoalMissed(f"{done} runs don't do, {said} are needed: {here}")
@@ -134,6 +136,7 @@ def _look(
     numbers = np.asarray(comparisons.plain(sample), dtype=float)
     if sample.below is None:
         ends = sorted((above[0] * sample.scale, above[1] * sample.scale))
+        check_inside(numbers, (ends[0], ends[1]), measure.label)
         return here, numbers, (ends[0], ends[1])
     # A run moves the ratio r by (a - r b) / mean(b), nearly.
     under = float(np.asarray(sample.below, dtype=float).mean())

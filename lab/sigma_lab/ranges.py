@@ -144,6 +144,16 @@ class _Probe:
         return self.columns[item, column]
 
 
+def check_inside(numbers: NDArray[Any], bounds: Bounds, label: str) -> None:
+    """Raises InputError if a number lies beyond the range that was stated or declared."""
+    slack = 1e-9 * max(1.0, *(abs(end) for end in bounds if math.isfinite(end)))
+    low, high = float(np.min(numbers)), float(np.max(numbers))
+    if low < bounds[0] - slack or high > bounds[1] + slack:
+        raise InputError(
+            f"{label}: runs have {low:g} to {high:g}, which is beyond the range {bounds[0]:g} to {bounds[1]:g}"
+        )
+
+
 def _pair(stated: Stated, least: float) -> Bounds:
     low, high = stated if isinstance(stated, tuple) else (least, stated)
     if not low < high:

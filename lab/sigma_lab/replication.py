@@ -210,15 +210,16 @@ def run(model: ModelLike, plan: Plan, *, number: int = 1, fill: bool = True) -> 
     number : int
         The number of the run, from 1; `History.outcome` says how it ended.
     """
-    return History.of_blocks(_blocks(ready(model, fill=fill), plan, number), "sigma run")
+    return History.of_blocks(blocks(ready(model, fill=fill), plan, number), "sigma run")
 
 
 def notes(model: ModelLike, plan: Plan, *, number: int = 1, fill: bool = True) -> Iterator[Note]:
     """The notes of a run as they come, for runs that are too long to keep."""
-    return notes_of(_blocks(ready(model, fill=fill), plan, number), "sigma run")
+    return notes_of(blocks(ready(model, fill=fill), plan, number), "sigma run")
 
 
-def _blocks(text: str, plan: Plan, number: int) -> Iterator[bytes]:
+def blocks(text: str, plan: Plan, number: int) -> Iterator[bytes]:
+    """The bytes of the history of a run of the plan's series, as they come; the text's tables are filled."""
     seed = seeds.spawn(plan.seed, number)
     words = [*_words("run", plan, plan.until), f"--seed={seed}"]
     return program.blocks(words, text, _HISTORY)
@@ -239,8 +240,8 @@ class _Watch:
 
     def __call__(self, number: int) -> tuple[list[Any], list[bool], str]:
         only = frozenset(event for event, _, _ in self._wanted)
-        blocks = _blocks(self._text, self._plan, number)
-        history = History.of_blocks(blocks, "sigma run", only=only)
+        read = blocks(self._text, self._plan, number)
+        history = History.of_blocks(read, "sigma run", only=only)
         made, seen = [], []
         for event, value, where in self._wanted:
             after = history.times(event) > (self._plan.warm_up or -1)

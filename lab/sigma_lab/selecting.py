@@ -17,7 +17,7 @@ from .measures import EventMeasure, Measure
 from .measures import measure as read_measure
 from .plan import Plan
 from .precision import Worst, bounds_of
-from .ranges import Ranges
+from .ranges import Ranges, check_inside
 from .report import Report
 from .searching import Note, judged
 from .targets import Limits, Target
@@ -140,6 +140,7 @@ class _State:
         self.alive = list(range(len(ways)))
         self.states = {k: "more" if targets else "meets" for k in self.alive}
         self.lost_after: dict[int, int] = {}
+        self.range = self._range()
         self.limits: dict[int, list[Limits]] = {
             k: [target.limits(self._ranges(k)) for target in targets] for k in self.alive
         }
@@ -150,12 +151,17 @@ class _State:
 
     def bounds(self) -> tuple[float, float]:
         """The least and the greatest value of any design's run, where more is better."""
-        all_ends = [
-            end * self.measure.scale * self.sign
+        low, high = sorted((self.sign * self.range[0], self.sign * self.range[1]))
+        return low, high
+
+    def _range(self) -> tuple[float, float]:
+        """The least and the greatest value of any design's run, in the measure's unit."""
+        ends = [
+            end * self.measure.scale
             for k in self.alive
             for end in bounds_of(self.measure, self._ranges(k), self.worst)[0]
         ]
-        return min(all_ends), max(all_ends)
+        return min(ends), max(ends)
 
     def run(self, lot: int, progress: str) -> None:
         """Makes a lot of runs of each design that is left."""
@@ -168,7 +174,10 @@ class _State:
 
     def values(self) -> dict[int, Floats]:
         """The numbers of the designs that are left, where more is better."""
-        return {k: self.sign * self._numbers(k) for k in self.alive}
+        made = {k: self.sign * self._numbers(k) for k in self.alive}
+        for numbers in made.values():
+            check_inside(self.sign * numbers, self.range, self.measure.label)
+        return made
 
     def _numbers(self, k: int) -> Floats:
         sample = self.measure.of(self.reports[k])

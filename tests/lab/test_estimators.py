@@ -157,7 +157,7 @@ def test_one_definition_of_a_quantile():
     seen = Observations(np.repeat([0, 1], 10), np.tile(x, 2), np.arange(2, dtype=np.uint64))
     assert sample_quantile(x, 0.9) == stats.quantile(x, 0.9).value == 9
     assert clusters.quantile(seen, 0.9).value == 9
-    assert list(clusters.by_run(seen, (0.9,))["quantile 0.9"]) == [9, 9]
+    assert list(seen.by_run((0.9,))["q0.9"]) == [9, 9]
     assert sample_quantile(np.arange(1, 101), 0.07) == 7  # 100 * 0.07 is above 7 by rounding
     assert sample_quantile(x, 0.9) == np.quantile(x, 0.9, method="inverted_cdf")
 
