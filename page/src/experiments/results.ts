@@ -34,10 +34,11 @@ function figure(title: string, small: string, chart: HTMLElement, ...more: (HTML
 }
 
 function table_of(rows: readonly (Interval & { p?: number })[]): HTMLElement {
-  const digits = Math.max(0, ...rows.map(({ summary: each }) => digits_of(each.error))), has_p = rows.some(each => each.p !== undefined);
+  // A column has one number of decimals, so that its numbers are compared at a glance.
+  const digits = Math.max(0, ...rows.map(({ summary: each }) => digits_of(each.error))), ends = rows.every(({ summary: each }) => Number.isInteger(each.least) && Number.isInteger(each.greatest)) ? 0 : digits, has_p = rows.some(each => each.p !== undefined);
   const level = rows[0] ? `${short(rows[0].summary.level * 100)} %` : "95 %";
   return h("div", { className: "table-box" }, h("table", { className: "numbers" }, h("thead", {}, h("tr", {}, ...["", "runs", "mean", `${level} from`, "to", "least", "greatest", ...(has_p ? ["p (Holm)"] : [])].map(each => h("th", { scope: "col" }, each)))),
-    h("tbody", {}, ...rows.map(({ label, summary: each, p }) => h("tr", {}, h("th", { scope: "row" }, label), h("td", {}, count(each.runs)), ...[each.mean, each.from, each.to, each.least, each.greatest].map(value => h("td", {}, fixed(value, digits))), has_p ? h("td", {}, p === undefined || Number.isNaN(p) ? "–" : p < 0.0001 ? "< 0.0001" : fixed(p, 4)) : null)))));
+    h("tbody", {}, ...rows.map(({ label, summary: each, p }) => h("tr", {}, h("th", { scope: "row" }, label), h("td", {}, count(each.runs)), ...[each.mean, each.from, each.to].map(value => h("td", {}, fixed(value, digits))), ...[each.least, each.greatest].map(value => h("td", {}, fixed(value, ends))), has_p ? h("td", {}, p === undefined || Number.isNaN(p) ? "–" : p < 0.0001 ? "< 0.0001" : fixed(p, 4)) : null)))));
 }
 
 function verdict(item: string, base: string, other: string, { from, to, error, mean, runs }: Summary): HTMLElement {
@@ -81,10 +82,10 @@ export function compared(named: readonly Named[], view: View, changed: (part: Pa
   for (const each of warnings) { const button = each.querySelector("button")!; button.onclick = () => run_seed(button.dataset.seed!); }
   const runs = Math.min(...all.map(({ values }) => values.length));
   return [...warnings,
-    figure(title, `mean of ${count(runs)} runs with its 95 % interval`, interval_chart(rows), table_of(rows), h("p", { className: "panel-foot" }, h("button", { className: "link", onclick: () => download("estimates.csv", estimates_as_csv(title, [...rows, ...differences]), "text/csv") }, "Save these as CSV"))),
-    ...(differences.length ? [figure("Differences", `run by run, on the same seeds${differences.length > 1 ? `; ${differences.length} comparisons that hold together at 95 %` : ""}`, interval_chart(differences, true), table_of(differences), ...differences.map((each, i) => verdict(view.item, all[0].name, pairs[i].name, each.summary)))] : []),
+    figure(title, `mean of ${count(runs)} runs with its 95 % interval`, interval_chart(rows, false, title), table_of(rows), h("p", { className: "panel-foot" }, h("button", { className: "link", onclick: () => download("estimates.csv", estimates_as_csv(title, [...rows, ...differences]), "text/csv") }, "Save these as CSV"))),
+    ...(differences.length ? [figure("Differences", `run by run, on the same seeds${differences.length > 1 ? `; ${differences.length} comparisons that hold together at 95 %` : ""}`, interval_chart(differences, true, `difference of the ${title_of(view.column)}`), table_of(differences), ...differences.map((each, i) => verdict(view.item, all[0].name, pairs[i].name, each.summary)))] : []),
     levels(all.map(({ name, values }) => ({ label: name, values })), view, changed),
-    figure("Spread over the runs", "", histogram(all.map(({ name, values, k }) => ({ label: name, values, colour: colour(k) }))))];
+    figure("Spread over the runs", "", histogram(all.map(({ name, values, k }) => ({ label: name, values, colour: colour(k) })), title))];
 }
 
 export function swept(sweep: Sweep, view: View): HTMLElement[] {
