@@ -55,7 +55,9 @@ def differences(browser, calls):
         for (name, _, _, wanted), got in zip(batch, browser.run(CALL, asked, seconds=900)):
             out, err, status, failure = base64.b64decode(got[0]), got[1], got[2], got[3]
             if (out, err, status) != (wanted[0], wanted[1].decode("utf-8", "replace"), wanted[2]):
-                wrong.append(f"{name}: status {status} {failure} for {wanted[2]}, {len(out)} bytes for {len(wanted[0])}, {err!r}")
+                wrong.append(
+                    f"{name}: status {status} {failure} for {wanted[2]}, {len(out)} bytes for {len(wanted[0])}, {err!r}"
+                )
         batch, size = [], 0
 
     for call in calls:
@@ -87,18 +89,33 @@ def test(browser, check, given, shots):
         """const answer = await engine.call("faithful", values[0], values[1], { want: "bytes" });
         const sum = new Uint8Array(await crypto.subtle.digest("SHA-256", answer.out));
         return [answer.status, answer.written, Array.from(sum, it => it.toString(16).padStart(2, "0")).join(""), answer.memory]""",
-        words, MANY_NOTES, seconds=900,
+        words,
+        MANY_NOTES,
+        seconds=900,
     )
     check("an output of more than 100 MB", len(wanted[0]) > 100000000)
-    check("it is the same", got[:3] == [wanted[2], len(wanted[0]), hashlib.sha256(wanted[0]).hexdigest()], got)
+    check(
+        "it is the same",
+        got[:3] == [wanted[2], len(wanted[0]), hashlib.sha256(wanted[0]).hexdigest()],
+        got,
+    )
     check("it takes less than 1 GiB", got[3] < 2**30, got[3])
 
     got = browser.run(
         """const answer = await engine.call("faithful", values[0], values[1]);
         return [answer.status, answer.err, answer.failure, answer.memory, complaint(answer)]""",
-        "run --until 100000000 --seed 1 --events 1099511627776".split(), many_pending(), seconds=900,
+        "run --until 100000000 --seed 1 --events 1099511627776".split(),
+        many_pending(),
+        seconds=900,
     )
-    check("where memory ends the program ends with its status and its line", got[:3] == [5, "sigma: out of memory\n", ""], got)
+    check(
+        "where memory ends the program ends with its status and its line",
+        got[:3] == [5, "sigma: out of memory\n", ""],
+        got,
+    )
     check("that is near 2 GiB, and the page says so", got[3] > 2**30 and "2 GiB" in got[4], got)
-    answer = browser.run("return (await engine.call('faithful', ['check'], values[0])).out", given["examples"]["bank"])
+    answer = browser.run(
+        "return (await engine.call('faithful', ['check'], values[0])).out",
+        given["examples"]["bank"],
+    )
     check("the next call is answered", answer == "accepted BANK\n", answer)

@@ -5,17 +5,38 @@ STATES = [
     ("graph", "await app.set_text(given.emergency, 'emergency.sigma'); app.select(null)"),
     ("event", "await app.set_text(given.bank, 'bank.sigma'); app.select('SERVE')"),
     ("edge", "await app.set_text(given.bank, 'bank.sigma'); app.select('OPEN', 1)"),
-    ("model", "await app.set_text(given.shop, 'shop.sigma'); app.select(null); document.querySelector('#inspector details').open = true"),
-    ("legend", "await app.set_text(given.shop, 'shop.sigma'); document.getElementById('legend-open').click()"),
-    ("sideways", "document.getElementById('legend-open').click(); document.getElementById('turn').click(); await new Promise(done => setTimeout(done, 500))"),
-    ("refused", "document.getElementById('turn').click(); await app.set_text(given.bank.replace('set IDLE := IDLE + 1;', 'set IDLE = IDLE + 1;'), 'bank.sigma');"
-                " app.editor.cm.scrollIntoView({ line: app.place.line, ch: 0 }, 80); views.show('text')"),
+    (
+        "model",
+        "await app.set_text(given.shop, 'shop.sigma'); app.select(null); document.querySelector('#inspector details').open = true",
+    ),
+    (
+        "legend",
+        "await app.set_text(given.shop, 'shop.sigma'); document.getElementById('legend-open').click()",
+    ),
+    (
+        "sideways",
+        "document.getElementById('legend-open').click(); document.getElementById('turn').click(); await new Promise(done => setTimeout(done, 500))",
+    ),
+    (
+        "refused",
+        "document.getElementById('turn').click(); await app.set_text(given.bank.replace('set IDLE := IDLE + 1;', 'set IDLE = IDLE + 1;'), 'bank.sigma');"
+        " app.editor.cm.scrollIntoView({ line: app.place.line, ch: 0 }, 80); views.show('text')",
+    ),
     ("empty", "await app.set_text('', 'model.sigma'); views.show('graph')"),
-    ("gallery", "await app.set_text(given.bank, 'bank.sigma'); document.getElementById('examples-open').click();"
-                " while (document.querySelectorAll('#cards .thumb').length < 12) await new Promise(done => setTimeout(done, 50))"),
+    (
+        "gallery",
+        "await app.set_text(given.bank, 'bank.sigma'); document.getElementById('examples-open').click();"
+        " while (document.querySelectorAll('#cards .thumb').length < 12) await new Promise(done => setTimeout(done, 50))",
+    ),
     ("help", "document.getElementById('gallery').close(); document.getElementById('help').click()"),
-    ("about", "document.getElementById('help-dialog').close(); document.getElementById('about').click()"),
-    ("link", "document.getElementById('about-dialog').close(); document.getElementById('link').click(); await new Promise(done => setTimeout(done, 300))"),
+    (
+        "about",
+        "document.getElementById('help-dialog').close(); document.getElementById('about').click()",
+    ),
+    (
+        "link",
+        "document.getElementById('about-dialog').close(); document.getElementById('link').click(); await new Promise(done => setTimeout(done, 300))",
+    ),
 ]
 
 # What of the visible controls and texts isn't within the window, but for what scrolls.
@@ -38,7 +59,10 @@ def test(browser, check, given, shots):
         for theme in ("light", "dark"):
             browser.run("theme.set(values[0])", theme)
             for name, how in STATES:
-                browser.run(f"const given = values[0]; {how}; await new Promise(done => setTimeout(done, 150))", examples)
+                browser.run(
+                    f"const given = values[0]; {how}; await new Promise(done => setTimeout(done, 150))",
+                    examples,
+                )
                 cut = browser.run(CUT_OFF)
                 check(f"{name}, {kind}, {theme}: nothing is cut off", not cut, cut)
                 if shots:

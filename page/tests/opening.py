@@ -19,17 +19,25 @@ def test(browser, check, given, shots):
         environment = {**os.environ, "PATH": f"{room}:{os.environ['PATH']}", "XDG_CACHE_HOME": room}
         for name in ("bank", "emergency"):
             words = [f"{TOP}/share/open_page", f"{EXAMPLES}/{name}.sigma"]
-            ran = subprocess.run(words, env=environment, capture_output=True, text=True, check=False)
+            ran = subprocess.run(
+                words, env=environment, capture_output=True, text=True, check=False
+            )
             check(f"{name}: the command ends well", ran.returncode == 0 and not ran.stderr, ran)
             with open(f"{room}/opened", encoding="utf-8") as it:
                 browser.open("file://" + it.read())
             end, text = time.time() + 60, ""
             while text != given["examples"][name] and time.time() < end:
                 try:
-                    text = browser.run("return typeof app !== 'undefined' && app.editor ? app.editor.text() : ''")
+                    text = browser.run(
+                        "return typeof app !== 'undefined' && app.editor ? app.editor.text() : ''"
+                    )
                 except (Failed, Refused):
                     text = ""
                 time.sleep(0.1)
             check(f"{name}: the page has the model", text == given["examples"][name], text[:100])
             browser.until("app.fresh", 60)
-            check(f"{name}: it has its name", browser.run("return app.file") == f"{name}.sigma", browser.run("return app.file"))
+            check(
+                f"{name}: it has its name",
+                browser.run("return app.file") == f"{name}.sigma",
+                browser.run("return app.file"),
+            )

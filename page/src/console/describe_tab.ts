@@ -2,6 +2,7 @@
 import { App, Tab } from "../app";
 import { h } from "../ui/dom";
 import { icon } from "../ui/icons";
+import { groups_of } from "./describe_groups";
 
 export class DescribeTab implements Tab {
   readonly id = "describe"; readonly title = "Describe"; readonly icon = "text";
@@ -29,15 +30,4 @@ export class DescribeTab implements Tab {
     return line.split(/([A-Za-z]\w*)/).map(part => (events.has(part) ? h("button", { className: "link", onclick: () => this.go(part) }, part) : part));
   }
   private go(name: string): void { this.app.pick({ kind: "event", name }); this.app.canvas.seek(name, true); }
-}
-
-/** The lines of `describe`: those on the model and its variables first, and then event by event. */
-export function groups_of(text: string): { title: string; lines: string[] }[] {
-  const [first, ...lines] = text.trimEnd().split("\n"), groups: { title: string; lines: string[] }[] = [{ title: first.replace(/^This is the model (.*)\.$/, "The model $1"), lines: [] }];
-  for (const line of lines) {
-    const event = /^Event (\w+) takes (no values\.$)?/.exec(line);
-    if (event) groups.push({ title: event[1], lines: event[2] ? [] : [line] });
-    else groups[groups.length - 1].lines.push(line);
-  }
-  return groups;
 }

@@ -12,7 +12,7 @@ export interface Fault { events: number; event: PendingEvent; kind: string; part
 export const KINDS: Record<string, string> = {
   range: "a value outside its variable's range", index: "a cell that its array doesn't have", division: "a division by 0", delay: "a delay below 0", overflow: "a number outside 64 bits",
 };
-const ONE_MORE = ["resume", "--until", String(2n ** 53n), "--events", "1"];
+const ONE_MORE = ["resume", "--until", String(2n ** 48n), "--events", "1"];
 
 /** Whether a call of run or resume ended by a fault. */
 async function faults(engine: Engine, words: string[], input: string, signal?: AbortSignal): Promise<boolean> {

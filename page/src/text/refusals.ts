@@ -68,19 +68,17 @@ const MEANINGS: readonly (readonly [RegExp, string])[] = [
   [/^model too long|^text too long/, "The text is too long: it may have 4,194,304 bytes."],
 ];
 
-/** How many letters differ between two names. */
+/** How many letters differ between two names; two that changed places are one. */
 export function distance(a: string, b: string): number {
-  const row = Array.from({ length: b.length + 1 }, (_, i) => i);
+  const rows = [Array.from({ length: b.length + 1 }, (_, j) => j)];
   for (let i = 1; i <= a.length; i++) {
-    let last = row[0];
-    row[0] = i;
+    rows.push([i]);
     for (let j = 1; j <= b.length; j++) {
-      const next = row[j];
-      row[j] = Math.min(row[j] + 1, row[j - 1] + 1, last + (a[i - 1] === b[j - 1] ? 0 : 1));
-      last = next;
+      rows[i][j] = Math.min(rows[i - 1][j] + 1, rows[i][j - 1] + 1, rows[i - 1][j - 1] + (a[i - 1] === b[j - 1] ? 0 : 1));
+      if (i > 1 && j > 1 && a[i - 1] === b[j - 2] && a[i - 2] === b[j - 1]) rows[i][j] = Math.min(rows[i][j], rows[i - 2][j - 2] + 1);
     }
   }
-  return row[b.length];
+  return rows[a.length][b.length];
 }
 const declared = (text: string): string[] => [...text.matchAll(/^\s*(?:var|table|vertex)\s+([A-Za-z]\w*)/gm)].map(found => found[1]);
 
@@ -113,7 +111,7 @@ function of_grammar(text: string, index: number, message: string): Refusal {
   }
   if (/^=/.test(shown) && begun.endsWith("=")) return answer("Write one = to compare.", { from: at, to: at + 1, text: "", title: "Write =" });
   if (/^=/.test(shown) && !begun.startsWith("var") && /^(set\b.*|[A-Za-z]\w*(\[.*\])?)$/s.test(begun)) return answer("Write := to store a value.", { from: at, to: at, text: ":", title: "Write :=" });
-  if (/^:=/.test(shown) && /^[A-Za-z]\w*(\[.*\])?$/s.test(begun)) { const from = at - (text.slice(0, at).length - before.length) - begun.length; return answer("A change begins with set.", { from, to: from, text: "set ", title: "Write set" }); }
+  if (!begun && /^[A-Za-z]\w*(\[[^\]]*\])?\s*(:=|=[^=])/.test(shown)) return answer("A change begins with set.", { from: at, to: at, text: "set ", title: "Write set" });
   const hint = HINTS.find(each => each.at.test(shown) && (!each.after || each.after.test(begun)));
   return answer(hint?.words ?? (shown ? `“${/^(\w+|\S+)/.exec(shown)![0]}” isn't expected here.` : sentence(message)));
 }

@@ -27,6 +27,7 @@ class Chromium(Browser):
         options.set_capability("goog:loggingPrefs", {"browser": "ALL"})
         service = Service("/usr/bin/chromedriver")
         self._driver: Any = webdriver.Chrome(options=options, service=service)
+        self._driver.set_script_timeout(900)
         self.size(width, height)
 
     def open(self, address: str) -> None:

@@ -55,7 +55,7 @@ class Firefox(Browser):
         for _ in range(300):
             try:
                 return websocket.create_connection(
-                    f"ws://127.0.0.1:{port}/session", timeout=90, suppress_origin=True
+                    f"ws://127.0.0.1:{port}/session", timeout=900, suppress_origin=True
                 )
             except OSError:
                 time.sleep(0.2)

@@ -1,0 +1,176 @@
+"""What a planner does in the page: forms, undo, faults, experiments, tables, parts that come again."""
+
+from __future__ import annotations
+
+import time
+
+from drive.browser import Browser
+from test_truth import ACCEPTED, event, field
+
+RUN = ".head-tools .primary"
+
+
+def test_undo_in_a_field_takes_back_what_was_typed(page: Browser) -> None:
+    """Ctrl+Z takes the typed letters first, and no step of the document."""
+    page.click(event("SERVE"))
+    before = page.js("return sigma.store.doc.text")
+    page.click(field("event:SERVE/changes"))
+    page.chord("Control", "End")
+    page.keys(" + 7")
+    page.chord("Control", "z")
+    page.until(
+        "!document.querySelector('[data-field=\"event:SERVE/changes\"]').value.endsWith('+ 7')"
+    )
+    assert page.js("return sigma.store.doc.text") == before
+    assert page.js("return sigma.store.redo_label") is None
+
+
+def test_values_and_charts_tell_of_one_moment(page: Browser) -> None:
+    """After the first ARRIVE one waits and two are idle, in the table and beside the charts."""
+    page.click(RUN)
+    page.until("sigma.run.result")
+    page.js("sigma.run.step(2)")
+    page.until("document.querySelector('.event-now h3')?.textContent.startsWith('ARRIVE')")
+    table = page.js(
+        "return [...document.querySelectorAll('.moment .values:not(.pending) tr')].slice(0, 2)"
+        ".map(row => row.querySelector('td').textContent)"
+    )
+    chart = page.js(
+        "return [...document.querySelectorAll('.course-row .now')].slice(0, 2).map(each => each.textContent)"
+    )
+    assert table == chart == ["1", "2"]
+
+
+def test_a_fault_names_event_change_values_and_seed(page: Browser) -> None:
+    """A queue of at most 2 faults at ARRIVE, which stores 3."""
+    page.js("sigma.store.edit(sigma.store.doc.text.replace('0..500', '0..2'), 'Typing')")
+    page.until(ACCEPTED)
+    page.click(RUN)
+    page.until("document.querySelector('.fault-box button')", 60)
+    told = page.js("return document.querySelector('.fault-box').textContent")
+    for word in ("ARRIVE", "QUEUE := QUEUE + 1", "QUEUE = 2 (0..2)", "seed 7"):
+        assert word in told
+    page.click(".fault-box button")
+    assert page.js("return sigma.app.picked.name") == "ARRIVE"
+
+
+def test_a_model_with_a_starting_value_runs_at_once(page: Browser) -> None:
+    """The first value of the parameter is taken where none is typed."""
+    page.js(
+        "sigma.open_example('emergency'); sigma.store.set({ settings: { ...sigma.store.doc.settings, start: '' } })"
+    )
+    page.until(f"{ACCEPTED} && sigma.store.shown.name === 'EMERGENCY'")
+    placeholder = page.until("document.querySelector('.run-tab [data-setting=start]')?.placeholder")
+    assert placeholder == "3"
+    page.click(RUN)
+    page.until("sigma.run.result", 60)
+
+
+def test_play_from_a_later_event(page: Browser) -> None:
+    """Event 101 has the values of the same event of the whole run."""
+    page.click(RUN)
+    page.until("sigma.run.result")
+    whole = page.js("return sigma.run.result.value.frames.values[100]")
+    page.js("sigma.store.set({ settings: { ...sigma.store.doc.settings, from: '100' } })")
+    page.click(RUN)
+    page.until("sigma.run.result.value.first === 100", 60)
+    assert page.js("return sigma.run.result.value.frames.values[0]") == whole
+
+
+def test_a_name_that_is_nearly_right_is_mended_by_a_click(page: Browser) -> None:
+    """The form says which name is meant, and writes it."""
+    page.click(event("LEAVE"))
+    page.write(field("event:LEAVE/changes"), "IDEL := IDEL + 1", "Tab")
+    page.until("document.querySelector('.problem')?.textContent.includes('is IDLE meant?')")
+    page.click(".problem .link")
+    page.until("!document.querySelector('.field.bad')")
+    assert "IDEL" not in page.js("return sigma.store.doc.text")
+
+
+def test_a_name_is_declared_from_the_form(page: Browser) -> None:
+    """The variable and the change come in one step."""
+    page.click(event("LEAVE"))
+    page.write(
+        field("event:LEAVE/changes"), "IDLE := IDLE + 1\nSERVED_TODAY := SERVED_TODAY + 1", "Tab"
+    )
+    page.until("document.querySelector('.problem .link')")
+    page.click(".problem .link")
+    page.until("sigma.store.doc.text.includes('var SERVED_TODAY')")
+    page.js("sigma.store.undo()")
+    assert "SERVED_TODAY" not in page.js("return sigma.store.doc.text")
+
+
+def test_a_table_of_a_distribution_becomes_a_delay(page: Browser) -> None:
+    """An exponential delay by the form of an edge."""
+    page.js("sigma.app.pick({ kind: 'edge', from: 'ARRIVE', place: 0 })")
+    page.until("document.querySelector('[aria-label=\"A drawn delay\"]')")
+    page.js(
+        "const select = document.querySelector('[aria-label=\"A drawn delay\"]');"
+        "select.value = 'new'; select.onchange({ target: select });"
+    )
+    page.write("[data-number=mean]", "4")
+    page.click("dialog .choices .primary")
+    page.until("/schedule ARRIVE after draw from 2 by TIMES;/.test(sigma.store.doc.text)")
+    page.until(ACCEPTED)
+
+
+def test_templates_are_put_in(page: Browser) -> None:
+    """A breakdown beside the bank, in one step of Undo."""
+    page.js("sigma.app.pick(null)")
+    page.click("[data-template=breakdown]")
+    page.until("sigma.store.doc.text.includes('vertex FAIL')")
+    page.until(ACCEPTED)
+    page.js("sigma.store.undo()")
+    assert "vertex FAIL" not in page.js("return sigma.store.doc.text")
+
+
+def test_designs_are_compared_on_the_same_seeds(page: Browser) -> None:
+    """Three tellers in place of two: the difference and its sentence are shown."""
+    page.click("#tab-experiments")
+    page.click(".card.add")
+    page.until("sigma.store.doc.designs.length === 2")
+    page.js("sigma.store.edit(sigma.store.doc.text.replace('0..2 = 2', '0..3 = 3'), 'Typing')")
+    page.js("sigma.store.set({ settings: { ...sigma.store.doc.settings, runs: '200' } })")
+    page.until(ACCEPTED)
+    page.click(RUN)
+    page.until("document.querySelector('.verdict')", 120)
+    assert "QUEUE is lower in “Design 2” than in “Base”" in page.js(
+        "return document.querySelector('.verdict').textContent"
+    )
+    seeds = page.js(
+        "return sigma.experiments.outcomes.map(each => each.replicated.report.seeds.join())"
+    )
+    assert seeds[0] == seeds[1]
+
+
+def test_reduce_explains_and_takes(page: Browser) -> None:
+    """The certificate is sound, the smaller model is in place, and Undo brings the other back."""
+    page.js("sigma.open_example('polling')")
+    page.until(f"{ACCEPTED} && sigma.store.shown.name === 'POLLING'")
+    page.js("sigma.command('reduce')")
+    page.until("document.querySelector('.checks .good')?.textContent.includes('sound')", 60)
+    page.click(".reduce-result .primary")
+    page.until(ACCEPTED)
+    assert page.js("return sigma.store.undo_label").startswith("Take the result")
+
+
+def test_conflicts_say_how_often_they_met(page: Browser) -> None:
+    """Each pair has a number of ticks."""
+    page.click("#tab-conflicts")
+    page.until("document.querySelector('.conflicts-tab td:last-child')", 60)
+    told = page.js(
+        "return [...document.querySelectorAll('.conflicts-tab .panel:first-child tbody td:last-child')].map(each => each.textContent)"
+    )
+    assert told and all(each == "never" or each.endswith(("tick", "ticks")) for each in told)
+
+
+def test_each_control_has_a_name(page: Browser) -> None:
+    """For screen readers, in each tab."""
+    nameless = """return [...document.querySelectorAll('button, input, select, textarea')]
+      .filter(each => each.offsetParent && !each.closest('.CodeMirror') && !(each.getAttribute('aria-label')
+        || each.textContent.trim() || each.closest('label')?.textContent.trim() || each.title))
+      .map(each => each.outerHTML.slice(0, 90))"""
+    for tab in ("run", "experiments", "reduce", "conflicts", "describe", "console"):
+        page.click(f"#tab-{tab}")
+        time.sleep(0.2)
+        assert page.js(nameless) == []
