@@ -86,6 +86,7 @@ def test_what_the_browser_kept_is_checked(page: Browser, address: str) -> None:
 
 def test_a_reload_keeps_changes_settings_and_refused_drafts(page: Browser, address: str) -> None:
     """What is typed in a field and refused is there again, with its reason."""
+    page.click(".run-tab .settings-fold summary")
     page.write('.run-tab [data-setting="until"]', "600", "Tab")
     page.js("sigma.app.pick({ kind: 'event', name: 'LEAVE' })")
     page.write('[data-field="event:LEAVE/changes"]', "IDLE = 1", "Tab")

@@ -148,6 +148,7 @@ def test_a_view_keeps_the_run(page: Browser) -> None:
 
 def test_bad_settings_are_marked(page: Browser) -> None:
     """Numbers are read as people write them; what is none is marked, and nothing runs."""
+    page.click(".run-tab .settings-fold summary")
     page.write('.run-tab [data-setting="events"]', "1e6", "Tab")
     shown = page.js("return document.querySelector('.run-tab [data-setting=events]').value")
     assert shown == "1,000,000"

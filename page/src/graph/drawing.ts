@@ -17,10 +17,18 @@ function event_in_words({ name, first, watched, lines }: NodeShape): string {
   return `Event ${name}${first ? ", the first" : ""}${watched ? ", watched" : ""}${lines.length ? `: ${lines.join("; ")}` : ""}`;
 }
 
+/** An event as it is seen from afar: its box and its name. */
+export function far_node_element({ shape, box }: Node): SVGElement {
+  const { width, height, name } = shape;
+  return s("g", { class: `node${shape.first ? " first" : ""}`, tabindex: "-1", role: "button", "aria-pressed": "false", "aria-label": event_in_words(shape), "data-part": part_of_event(name), transform: at(box) },
+    s("rect", { class: "body", x: -width / 2, y: -height / 2, width, height, rx: 10 }), s("text", { class: "far", x: 0, y: far_size(shape) * 0.36, "font-size": far_size(shape) }, name));
+}
+const far_size = ({ name, width, height }: NodeShape): number => Math.round(Math.min(24, height * 0.62, (width - 12) / Math.max(3, name.length * 0.66)) * 10) / 10;
+
 export function node_element({ shape, box }: Node, still: boolean): SVGElement {
   const { width, height, name } = shape, x = -width / 2, y = -height / 2, has_lines = shape.lines.length > 0, tall = has_lines ? HEAD : height, middle = y + tall / 2;
   // From afar the name alone is shown, as large as its box allows.
-  const far = Math.min(24, height * 0.62, (width - 12) / Math.max(3, name.length * 0.66));
+  const far = far_size(shape);
   return s("g", { class: `node${shape.first ? " first" : ""}${shape.watched ? " watched" : ""}`, tabindex: "-1", role: "button", "aria-pressed": "false", "aria-label": event_in_words(shape), "data-part": part_of_event(name), transform: at(box) },
     s("title", {}, shape.changes ? `${name}\n${shape.changes}` : name),
     s("rect", { class: "halo", x: x - 4, y: y - 4, width: width + 8, height: height + 8, rx: 13 }),
@@ -28,7 +36,7 @@ export function node_element({ shape, box }: Node, still: boolean): SVGElement {
     has_lines ? s("path", { class: "rule", d: `M${x + 1} ${y + tall}H${x + width - 1}` }) : null,
     s("text", { class: "name", x: 0, y: middle + 4.5, "data-field": "name" }, name, shape.title ? s("tspan", { class: "params" }, ` ${shape.title}`) : null),
     has_lines ? s("g", { class: "lines", "data-field": "changes" }, ...shape.lines.map((line, i) => s("text", { x: x + 14, y: y + tall + 17 + i * LINE }, line))) : null,
-    s("text", { class: "far", x: 0, y: far * 0.36, "font-size": Math.round(far * 10) / 10 }, name),
+    s("text", { class: "far", x: 0, y: far * 0.36, "font-size": far }, name),
     shape.watched ? s("g", { class: "eye", transform: `translate(${x + 10} ${middle - 6}) scale(.8)` }, s("path", { d: EYE })) : null,
     shape.first ? s("g", { class: "start", transform: `translate(${x} ${y})` }, s("circle", { r: 9 }), s("path", { d: "M-2.5 -4v8l6.5-4z" }), s("title", {}, "A run begins here")) : null,
     s("g", { class: "badge", transform: `translate(${x + width - 19} ${middle})` }, s("rect", { x: -12, y: -9, width: 24, height: 18, rx: 9 }), s("text", { y: 4 }), s("title", {}, "How many of these are pending")),

@@ -28,6 +28,7 @@ export class Scene {
   private bundles: Bundle[] = [];
   private has_labels = true;
   private had_places = false;
+  private is_fresh = false;
   /** The arrows between two events, and the group of each event: looked up for each line. */
   private pairs = new Map<string, Bundle[]>();
   private group_of = new Map<string, number>();
@@ -53,8 +54,9 @@ export class Scene {
   /** Takes a model up. Answers what has to be laid out, or null where every event has a place already. */
   begin(model: Model, places: Places, view: Pick<Request, "sideways" | "aspect" | "room">): Request | null {
     const first = this.model?.name !== model.name;
-    if (first) this.clear();
-    this.follow_renames(model);
+    // What is drawn stays until the other model is laid out.
+    this.is_fresh = first;
+    if (!first) this.follow_renames(model);
     this.model = model;
     this.shapes = model.vertices.map(vertex => node_shape(vertex, model, this.width_of));
     this.bundles = bundles_of(edges_of(model), this.width_of);
@@ -68,8 +70,10 @@ export class Scene {
 
   /** Puts everything where it belongs: where the text says, else where it was, else where it was laid out. */
   finish(places: Places, layout: Layout | null): void {
+    if (this.is_fresh) { this.known.clear(); this.groups = []; this.lines = []; }
     if (layout) this.remember(layout);
-    const boxes = new Map<string, Box>(), before = this.nodes;
+    const boxes = new Map<string, Box>(), before = this.is_fresh ? new Map<string, Node>() : this.nodes;
+    this.is_fresh = false;
     const late: NodeShape[] = [];
     this.shapes.forEach((shape, i) => {
       const place = places[shape.name] ?? (layout ? layout.nodes[i] : before.get(shape.name)?.box);
@@ -212,6 +216,7 @@ export class Scene {
   }
 
   bounds(): Box {
+    if (!this.nodes.size) return { x: 0, y: 0, width: 0, height: 0 };
     const corners = (box: Box): Point[] => [{ x: box.x - box.width / 2, y: box.y - box.height / 2 }, { x: box.x + box.width / 2, y: box.y + box.height / 2 }];
     return bounds_of([
       ...[...this.nodes.values()].flatMap(node => corners(node.box)),

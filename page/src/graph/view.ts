@@ -42,11 +42,24 @@ export class View {
   private pressed = false;
 
   get at(): Transform { return zoomTransform(this.svg); }
-  get room(): Room { return { width: this.element.clientWidth, height: Math.max(60, this.element.clientHeight - this.foot) }; }
-  set(at: Transform): void { this.zoomed.transform(select(this.svg), zoomIdentity.translate(at.x, at.y).scale(at.k)); }
+  /** The size of the paper on the screen, kept: to ask for it would lay out the page in each frame. */
+  private size: Room = { width: 0, height: 0 };
+  resize(): void {
+    this.size = { width: this.element.clientWidth, height: this.element.clientHeight };
+    this.zoomed.extent([[0, 0], [this.size.width, this.size.height]]);
+  }
+  get room(): Room {
+    if (!this.size.width) this.resize();
+    return { width: this.size.width, height: Math.max(60, this.size.height - this.foot) };
+  }
+  set(at: Transform): void {
+    if (![at.x, at.y, at.k].every(Number.isFinite)) return;
+    this.zoomed.transform(select(this.svg), zoomIdentity.translate(at.x, at.y).scale(at.k));
+  }
 
   fit(box: Box, most: number): void {
-    if (!this.element.clientWidth || !this.element.clientHeight) return;
+    this.resize();
+    if (!this.size.width || !this.size.height) return;
     this.set(fitted(box, this.room, most));
     this.is_own = false;
   }
@@ -88,7 +101,7 @@ export class View {
   }
   /** The part of the paper that is seen, with some air. */
   seen(air = 0): Box {
-    const { x, y, k } = this.at, { clientWidth, clientHeight } = this.element;
-    return { x: (clientWidth / 2 - x) / k, y: (clientHeight / 2 - y) / k, width: clientWidth / k + 2 * air, height: clientHeight / k + 2 * air };
+    const { x, y, k } = this.at, { width } = this.room, { height } = this.size;
+    return { x: (width / 2 - x) / k, y: (height / 2 - y) / k, width: width / k + 2 * air, height: height / k + 2 * air };
   }
 }

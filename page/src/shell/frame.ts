@@ -7,9 +7,11 @@ import { keep, kept } from "./kept";
 /** The parts that a telephone shows one at a time. */
 const PARTS = [["text", "Text", "text"], ["graph", "Graph", "graph"], ["form", "Form", "form"], ["dock", "Run", "play"]] as const;
 const NARROW = 760;
+/** Below this width the form is a drawer over the graph. */
+const DRAWER = 1100;
 
 export function show_part(app: App, part: string, always = true): void {
-  if (!always && innerWidth > NARROW) return;
+  if (!always && innerWidth > (part === "form" ? DRAWER : NARROW)) return;
   document.body.dataset.view = part;
   for (const button of at("parts").children) button.setAttribute("aria-current", String(button.id === `part-${part}`));
   if (part === "text") app.editor.refresh();
@@ -58,12 +60,14 @@ export interface Pieces { head: HTMLElement; text: HTMLElement; text_foot: HTMLE
 export function build_frame(app: App, { head, text, text_foot, stage, tab_bar, tab_body, form }: Pieces): void {
   const rail_button = h("button", { title: "Show the text", onclick: () => { show_text(app, true); app.editor.focus(); } }, icon("text"), h("span", {}, "Text"));
   const hide = h("button", { className: "icon-button", title: "Hide the text", "aria-label": "Hide the text", onclick: () => { show_text(app, false); rail_button.focus(); } }, icon("left", 14));
+  const form_rail = h("nav", { className: "rail form-rail", "aria-label": "Form" }, h("button", { title: "Show the form", onclick: () => { show_part(app, "form"); form.querySelector("input")?.focus(); } }, icon("form"), h("span", {}, "Form")));
+  const close = h("button", { className: "icon-button", title: "Hide the form", "aria-label": "Hide the form", onclick: () => { show_part(app, "graph"); form_rail.querySelector("button")!.focus(); } }, icon("right", 14));
   const skip = h("a", { className: "skip", href: "#graph", onclick: (event: Event) => { event.preventDefault(); show_part(app, "graph", false); app.canvas.keyboard.enter(); } }, "To the graph");
   document.body.append(skip, head,
     h("div", { className: "work" }, h("nav", { className: "rail", "aria-label": "Text" }, rail_button),
       h("section", { className: "text-pane", "aria-label": "Text" }, h("header", { className: "pane-head" }, h("b", {}, "Text"), hide), text, text_foot), split(app, "left"),
       h("div", { className: "middle" }, stage, split(app, "dock"), h("section", { className: "dock", "aria-label": "Results" }, tab_bar, tab_body)), split(app, "right"),
-      h("section", { className: "form-pane", "aria-label": "Form" }, form)),
+      h("section", { className: "form-pane", "aria-label": "Form" }, h("header", { className: "pane-head drawer-head" }, h("b", {}, "Form"), close), form), form_rail),
     h("nav", { id: "parts", className: "parts", "aria-label": "Parts" }, ...PARTS.map(([id, name, its]) => h("button", { id: `part-${id}`, onclick: () => show_part(app, id) }, icon(its), name))),
     h("div", { id: "notes", className: "notes", "aria-live": "polite" }),
     h("div", { id: "report", className: "report" }));

@@ -50,7 +50,7 @@ export class CourseCharts {
   show(course: Course | null, fault: number | null = null): void {
     this.course = course;
     this.fault = fault;
-    this.moment = null;
+    if (!course) this.moment = null;
     this.domain = [0, Math.max(1, course?.end ?? 1)];
     this.redraw();
     if (!course) this.element.replaceChildren();
