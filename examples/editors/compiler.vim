@@ -4,5 +4,5 @@ if exists("current_compiler")
 endif
 let current_compiler = "sigma"
 
-CompilerSet makeprg=sigma-place\ %:S
+CompilerSet makeprg=sigma-lab\ place\ %:S
 CompilerSet errorformat=%f:%l:%c:\ %m,%-G%.%#

@@ -1,4 +1,5 @@
 #!/bin/sh
+# shellcheck disable=SC2086 # the words of a study are several
 # A template for Slurm: the runs of one model in parts, each of them a task of an array. `study` beside it says what is run;
 # `collect.sbatch` makes one report of the parts, once all are made:
 #

@@ -1,4 +1,5 @@
 #!/bin/sh
+# shellcheck disable=SC2086 # the words of a study are several
 # A template for Slurm: makes `report.csv` of the parts that `array.sbatch` made, in their order, where all are there.
 #SBATCH --output=collect.log
 . ./study || exit

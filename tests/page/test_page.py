@@ -2,6 +2,7 @@
 
 from __future__ import annotations
 
+import re
 import subprocess
 from collections.abc import Callable
 from pathlib import Path
@@ -31,6 +32,8 @@ def succeeds(*words: str | Path, program: Program | None = None) -> str:
     output = ran.stdout.decode(errors="replace")
     if ran.returncode:
         pytest.fail(f"status {ran.returncode} of {words}\n{output[-SHOWN:]}", pytrace=False)
+    if re.search(r"\b[1-9]\d* skipped|\bskipped [1-9]", output):
+        pytest.fail(f"{words} skipped something\n{output[-SHOWN:]}", pytrace=False)
     return output
 
 
@@ -57,8 +60,7 @@ def test_in_browsers(program: Program) -> None:
 def test_the_c_of_the_module(needs: Needs) -> None:
     """The C beside the program: its memory, and whole numbers of 128 bits."""
     needs("cc")
-    output = succeeds(PAGE / "module/tests/try")
-    assert "skipped" not in output
+    succeeds(PAGE / "module/tests/try")
 
 
 def test_a_small_module_becomes_webassembly(needs: Needs, tmp_path: Path) -> None:

@@ -43,7 +43,7 @@ def test_pages_list_what_has_to_be_believed(page: str, question: Question) -> No
     assert list_of(page, question)[0] == []
 
 
-@pytest.mark.parametrize("page", ["README.md", "docs/trust/promises.md"])
+@pytest.mark.parametrize("page", ["README.md", PROMISES])
 def test_pages_name_how_many_lines_they_are(page: str) -> None:
     """A page names how many lines have to be believed for all clauses."""
     lines = f"{list_of(DEFINITIONS)[1]:,}"

@@ -1,12 +1,18 @@
-"""The files for editors: the words that each colours are the reserved ones."""
+"""The files for editors: the words that they colour, and that vim goes to the place of a fault."""
 
 from __future__ import annotations
 
+import os
 import re
+import subprocess
+from collections.abc import Callable
+from pathlib import Path
 
 import pytest
 
+from support.lab import make_lab_command
 from support.places import EXAMPLES, TOP
+from support.program import LONGEST, Program
 
 EDITORS = EXAMPLES / "editors"
 
@@ -43,3 +49,32 @@ def test_coloured_words(file: str, words: object) -> None:
     assert callable(words)
     assert len(reserved()) > 20
     assert sorted(words((EDITORS / file).read_text())) == reserved()
+
+
+def test_vim_goes_to_the_place_of_a_fault(
+    program: Program, needs: Callable[[str], str], tmp_path: Path
+) -> None:
+    """By `:make` vim goes to the line and column of a fault, and has the message."""
+    vim = needs("vim")
+    parts = subprocess.run([vim, "--version"], capture_output=True, check=True).stdout.decode()
+    assert "+quickfix" in parts and "+eval" in parts, "this vim is too small: it needs +eval"
+    compilers = tmp_path / "vim/compiler"
+    compilers.mkdir(parents=True)
+    (compilers / "sigma.vim").write_bytes((EDITORS / "compiler.vim").read_bytes())
+    model = tmp_path / "a model.sigma"
+    model.write_text("model M;\n# \u00e9\n\tvar X : 0..9 = 10;\nvertex V { }\nend\n")
+    environment = make_lab_command(tmp_path / "bin", program)
+    fields = "[v:val.valid, v:val.lnum, v:val.col, v:val.text]"
+    faults = f"map(filter(getqflist(), 'v:val.valid'), 'join({fields})')"
+    write = f"call writefile([join([line('.'), col('.')] + {faults})], '{tmp_path}/found')"
+    words = [vim, "-es", "-u", "NONE", "-N", "--cmd", f"set runtimepath^={tmp_path}/vim"]
+    words += ["-c", "compiler sigma", "-c", "silent make", "-c", write, "-c", "qall!", str(model)]
+    subprocess.run(
+        words,
+        stdin=subprocess.DEVNULL,
+        capture_output=True,
+        env={**os.environ, **environment},
+        timeout=LONGEST,
+        check=False,
+    )
+    assert (tmp_path / "found").read_text() == "3 17 1 3 17 initial outside\n"

@@ -15,6 +15,7 @@ from pathlib import Path
 
 import pytest
 
+from support.lab import make_lab_command
 from support.pages import Command, commands, essence, is_shown
 from support.places import TOP, kept_files
 from support.program import LONGEST, Program
@@ -30,22 +31,9 @@ def furnish(folder: Path, program: Program) -> dict[str, str]:
         if (TOP / name).exists():
             (folder / name).symlink_to(TOP / name)
     (folder / "sigma").symlink_to(program.path)
-    tools = folder / ".bin"
-    tools.mkdir()
-    (tools / "sigma").symlink_to(program.path)
-    lab = tools / "sigma-lab"
-    start = "from sigma_lab.cli import main; raise SystemExit(main())"
-    lab.write_text(f"#!/bin/sh\nexec /usr/bin/python3 -c '{start}' \"$@\"\n")
-    lab.chmod(0o755)
-    (folder / "sigma-lab").symlink_to(lab)
-    return {
-        **os.environ,
-        "LC_ALL": "C.UTF-8",
-        "PATH": f"{tools}:/usr/bin:/bin:{os.environ.get('PATH', '')}",
-        "PYTHONPATH": str(TOP / "lab"),
-        "PYTHONDONTWRITEBYTECODE": "1",
-        "SIGMA": str(program.path),
-    }
+    commands_of_lab = make_lab_command(folder / ".bin", program)
+    (folder / "sigma-lab").symlink_to(folder / ".bin/sigma-lab")
+    return {**os.environ, "LC_ALL": "C.UTF-8", **commands_of_lab}
 
 
 def complaint(command: Command, folder: Path, environment: dict[str, str]) -> str | None:
