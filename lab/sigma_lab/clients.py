@@ -29,14 +29,15 @@ def client_of(address: str, *, timeout: float = 10.0) -> Any:
         If the scheduler doesn't answer, or has no worker.
     """
     try:
-        from distributed import Client
+        import distributed
     except ImportError:
         raise InputError("--dask needs the package python3-distributed") from None
+    begin: Any = distributed.Client
     try:
         if address.endswith(".json"):
-            client = Client(scheduler_file=address, timeout=timeout)
+            client = begin(scheduler_file=address, timeout=timeout)
         else:
-            client = Client(address, timeout=timeout)
+            client = begin(address, timeout=timeout)
         client.wait_for_workers(1, timeout=timeout)
     except (OSError, ValueError, TypeError) as error:
         raise LabError(f"the dask scheduler {address} doesn't answer: {error}") from None

@@ -77,9 +77,9 @@ class Command:
 class Parser(argparse.ArgumentParser):
     """A parser that takes negative numbers as values of options: `--start -1,2`."""
 
-    def __init__(self, *words: Any, **options: Any) -> None:
+    def __init__(self, name: str, about: str) -> None:
         self._valued: set[str] = set()
-        super().__init__(*words, allow_abbrev=False, **options)
+        super().__init__(name, description=about, allow_abbrev=False)
 
     def add_argument(self, *words: Any, **options: Any) -> argparse.Action:
         """As of `argparse`."""

@@ -38,7 +38,7 @@ def add_worst(parser: Parser) -> None:
         action="append",
         default=[],
         metavar="ITEM=X",
-        help="the greatest value of a run, or as ITEM=L..H the least and the greatest",
+        help="the greatest value of a run, or as ITEM=L..H the least and the greatest, which `enough` needs",
     )
 
 
@@ -89,7 +89,7 @@ def _enough_words(parser: Parser) -> None:
 
 
 def _enough(args: argparse.Namespace, answer: Answer) -> None:
-    from contextlib import nullcontext
+    from contextlib import ExitStack
 
     from .experiments import run_until_precise
     from .files import Kept
@@ -102,7 +102,8 @@ def _enough(args: argparse.Namespace, answer: Answer) -> None:
     goal: dict[str, float] = {"relative" if word.endswith("%") else "half_width": width}
     text, plan = read_model(args.model), plan_of(args)
     worst: Any = worst_of(args.worst) or None
-    with Kept(args.keep) if args.keep else nullcontext() as kept:
+    with ExitStack() as stack:
+        kept = stack.enter_context(Kept(args.keep)) if args.keep else None
         made = run_until_precise(
             text,
             what,

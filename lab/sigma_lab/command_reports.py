@@ -90,10 +90,16 @@ def _means(args: argparse.Namespace, answer: Answer) -> None:
             here = report.predict(what, confidence_level=level)
             add_estimate(answer, f"{name} one further run", here, measure=what.label)
     if len(reports) > 1:
-        from .experiments import compare_reports
+        from .comparisons import compare_reports
 
+        is_best = args.against in ("least", "greatest")
         table = compare_reports(
-            reports, what, against=args.against, paired=not args.unpaired, confidence_level=level
+            reports,
+            what,
+            against="best" if is_best else args.against,
+            minimize=args.against == "least",
+            paired=not args.unpaired,
+            confidence_level=level,
         )
         answer.table(table)
 

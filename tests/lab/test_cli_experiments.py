@@ -106,7 +106,7 @@ def test_observations(lab: Lab) -> None:
 
 def test_enough(lab: Lab, tmp_path: Path) -> None:
     kept = tmp_path / "kept.csv"
-    words = ["enough", BANK, "QUEUE.average", "0.2", "--until", 600, "--worst", "QUEUE.average=12"]
+    words = ["enough", BANK, "QUEUE.average", "0.2", "--until", 600, "--worst", "QUEUE.average=0..12"]
     made = rows(lab(*words, "--json", "--keep", kept))[0]
     assert made["half_width"] <= 0.2 and len(Report.read(kept)) == made["n"]
     assert "runs" in lab(*words[:3], "0.001", *words[4:], "--most", 60, status=4)
