@@ -92,12 +92,10 @@ def _means(args: argparse.Namespace, answer: Answer) -> None:
     if len(reports) > 1:
         from .comparisons import compare_reports
 
-        is_best = args.against in ("least", "greatest")
         table = compare_reports(
             reports,
             what,
-            against="best" if is_best else args.against,
-            minimize=args.against == "least",
+            against=args.against,
             paired=not args.unpaired,
             confidence_level=level,
         )
