@@ -32,7 +32,7 @@ print(report.estimate("QUEUE.average"))
 # %% [markdown]
 # ## Building a model
 # Patterns write resources, queues and the ways of entities. Here patients come each 4 to 12 minutes. One in five is
-# urgent and is seen first; the others go home after two hours.
+# urgent and is seen first; the others go home after 45 minutes.
 # %%
 from sigma_lab.patterns import Flow, Resource
 
@@ -44,7 +44,7 @@ way = Flow(m, "PATIENT", most=300)
 urgency = way.attribute("URGENCY", 0, 1)
 way.arrive(gap=draw(m.stream(), 4, 12), until=600)
 way.set_drawn(urgency, draw(m.stream(), m.table("TRIAGE", {0: 1, 1: 4})))
-way.serve(doctor, draw(m.stream(), 8, 24), urgency, by=0, patience=120, impatient=urgency == 1)
+way.serve(doctor, draw(m.stream(), 8, 24), urgency, by=0, patience=45, impatient=urgency == 1)
 way.leave()
 way.log(urgency)
 m.watch(doctor.queue, doctor.busy, doctor.left, way.stayed, way.done)
