@@ -415,7 +415,7 @@ def rows_of(name: str, rows: Rows) -> tuple[tuple[int, int], ...]:
     if isinstance(rows, str):
         from . import inputs
 
-        table = inputs.discretise(inputs.Distribution.parse(rows), name=name)
+        table = inputs.discretize(inputs.Distribution.parse(rows), name=name)
         return tuple(
             (int(value), int(weight)) for value, weight in zip(table.values, table.weights)
         )

@@ -20,7 +20,7 @@ if TYPE_CHECKING:
 _LOOK_BACK = 2000  # the most events at the end of a budget that are looked at
 
 
-@dataclass(frozen=True)
+@dataclass(frozen=True, repr=False)
 class Fault:
     """An event that faults.
 
@@ -65,8 +65,10 @@ class Fault:
         by = [f"    scheduled by {self.scheduled}"] if self.scheduled else []
         return "\n".join([first, f"    {where}", *(f"    {each}" for each in self.blamed), *by])
 
+    __repr__ = __str__
 
-@dataclass(frozen=True)
+
+@dataclass(frozen=True, repr=False)
 class Stuck:
     """A run that spent its budget: where, and the events that come again and again there."""
 
@@ -104,6 +106,8 @@ class Stuck:
                 ),
             ]
         )
+
+    __repr__ = __str__
 
 
 def whyfault(

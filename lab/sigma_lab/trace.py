@@ -49,7 +49,7 @@ class TracedEvent:
         )
 
 
-@dataclass(frozen=True)
+@dataclass(frozen=True, repr=False)
 class Trace:
     """The events between two ticks; `fault` is the last line of the history if an event faulted there."""
 
@@ -58,6 +58,8 @@ class Trace:
 
     def __str__(self) -> str:
         return "\n".join([*map(str, self.events), *([self.fault] if self.fault else [])])
+
+    __repr__ = __str__
 
     @property
     def frame(self) -> pd.DataFrame:

@@ -575,6 +575,32 @@ def test_entities_of_a_log():
     ]
 
 
+def test_a_log_of_many_is_whole():
+    # Each has a row, numbers come again, and what was waited and served is what was stayed.
+    m = Model("MANY")
+    desk = Resource(m, "DESK", staff=2, classes=2)
+    way = Flow(m, "P", most=20)
+    kind = way.attribute("KIND", 0, 1)
+    way.arrive(gap=draw(m.stream(), 4, 12))
+    way.set_drawn(kind, draw(m.stream(), 0, 1))
+    way.serve(desk, draw(m.stream(), 8, 22), kind, by=0, patience={0: 500, 1: 20})
+    way.leave()
+    way.log(kind)
+    notes, last = history(m.check(), 20_000)
+    assert last == "stopped 20000"
+    rows = [(event, tick, cells) for tick, event, cells in notes if event]
+    assert {event for event, _, _ in rows} == {"P_ENDS_DESK", "P_LEAVES"}
+    numbers = sorted(cells["P_LOG_NUMBER"] for _, _, cells in rows)
+    assert len(set(numbers)) == len(numbers) and max(numbers) - len(numbers) < 20
+    for event, tick, cells in rows:
+        served = tick - cells["P_LOG_CAME"] - cells["P_LOG_WAITED"]
+        assert (
+            served == 0 and cells["P_LOG_WAITED"] == 20
+            if event == "P_LEAVES"
+            else 8 <= served <= 22
+        )
+
+
 # What is refused when a model is built.
 
 

@@ -9,6 +9,7 @@ from __future__ import annotations
 
 import importlib
 import math
+import re
 import sys
 from dataclasses import dataclass
 from pathlib import Path
@@ -23,7 +24,7 @@ from sigma_lab.report import Report  # noqa: E402
 
 @dataclass(frozen=True)
 class Study:
-    """A study: its run, and its measures as formulas over `ITEM.column`."""
+    """A study: its run, and its measures as formulas over `ITEM.column` and the time of the run."""
 
     until: int
     start: tuple[int, ...]
@@ -40,16 +41,16 @@ STUDIES = {
             "patients inside": "PATIENT_INSIDE.average",
             "red wait, s": "10 * DOCTOR_WAITED[0].last / DOCTOR_SERVED[0].last",
             "yellow wait, min": "DOCTOR_WAITED[1].last / DOCTOR_SERVED[1].last / 6",
-            "green home a day": "DOCTOR_LEFT[2].last / 14",
-            "interrupted a day": "(DOCTOR_INTERRUPTED[1].last + DOCTOR_INTERRUPTED[2].last) / 14",
+            "green home a day": "8640 * DOCTOR_LEFT[2].last / time",
+            "interrupted a day": "8640 * (DOCTOR_INTERRUPTED[1].last + DOCTOR_INTERRUPTED[2].last) / time",
         },
     ),
     "production_line": Study(
         100 * HOUR,
         (5,),
         {
-            "parts an hour": "PART_DONE.last / 100",
-            "setups an hour": "SETUP_COUNT.last / 100",
+            "parts an hour": "3600 * PART_DONE.last / time",
+            "setups an hour": "3600 * SETUP_COUNT.last / time",
             "third machine busy": "THIRD_BUSY.average",
             "in the first buffer": "BEFORE_LEVEL.average",
         },
@@ -60,8 +61,8 @@ STUDIES = {
         {
             "on the shelf": "SHELF.average",
             "owed": "OWED.average",
-            "orders a week": "ORDERS.last / 120",
-            "cost a week": "(32 * ORDERS.last + 3 * PIECES.last) / 120 + SHELF.average + 5 * OWED.average",
+            "orders a week": "1000 * ORDERS.last / time",
+            "cost a week": "1000 * (32 * ORDERS.last + 3 * PIECES.last) / time + SHELF.average + 5 * OWED.average",
         },
     ),
     "network": Study(
@@ -77,10 +78,8 @@ STUDIES = {
 }
 
 
-def values(report: Report, formula: str) -> list[float]:
+def values(report: Report, formula: str, time: int) -> list[float]:
     """The value of a formula in each run."""
-    import re
-
     found: dict[str, list[float]] = {}
 
     def name(match: re.Match[str]) -> str:
@@ -89,7 +88,7 @@ def values(report: Report, formula: str) -> list[float]:
         return key
 
     code = compile(re.sub(r"([A-Z]\w*(?:\[\d+\])?)\.(\w+)", name, formula), formula, "eval")
-    rows = [dict(zip(found, each)) for each in zip(*found.values())]
+    rows = [dict(zip(found, each), time=time) for each in zip(*found.values())]
     return [float(eval(code, {}, row)) for row in rows]
 
 
@@ -100,22 +99,28 @@ def mean_and_error(numbers: list[float]) -> tuple[float, float]:
     return mean, math.sqrt(spread / len(numbers))
 
 
-def compare(name: str, runs: int) -> list[tuple[str, float, float, float, float, float]]:
-    """For each measure both means with their errors, and by how many errors they are apart."""
+def compare(
+    name: str, runs: int, part: float = 1.0
+) -> list[tuple[str, float, float, float, float, float]]:
+    """For each measure both means with their errors, and by how many errors they are apart.
+
+    `part` makes the runs shorter.
+    """
     study = STUDIES[name]
+    until = int(study.until * part)
     model = importlib.import_module(name).build()
     begun = perf_counter()
-    report = model.replicate(Plan(study.until, runs=runs, start=study.start))
+    report = model.replicate(Plan(until, runs=runs, start=study.start))
     seconds = perf_counter() - begun
     beside = importlib.import_module(f"simpy_{name}")
     begun = perf_counter()
-    theirs = [beside.run(seed, study.until, study.start) for seed in range(1, runs + 1)]
+    theirs = [beside.run(seed, until, study.start) for seed in range(1, runs + 1)]
     print(
         f"{name}: {runs} runs, {seconds:.1f} s; SimPy {perf_counter() - begun:.1f} s; lines {lines(name)}"
     )
     rows = []
     for label, formula in study.measures.items():
-        mine = mean_and_error(values(report, formula))
+        mine = mean_and_error(values(report, formula, until))
         other = mean_and_error([each[label] for each in theirs])
         apart = (mine[0] - other[0]) / math.hypot(mine[1], other[1])
         rows.append((label, *mine, *other, apart))

@@ -121,6 +121,10 @@ class Pool:
             (self.fresh, choose(any_idle, self.fresh, self.fresh + 1)),
             (self.idle, largest(self.idle - 1, 0)),
         )
+        e.later(lambda late: self._forget(late, it))
+
+    def _forget(self, e: Body, it: Term) -> None:
+        """Lets one who comes have waited for nothing, whoever had its number."""
         if self.logs:
             e.set(self.waited[it], 0)
 

@@ -248,7 +248,7 @@ class Resource(Seizable):
 
     def outline(self) -> list[str]:
         classes = f", {self.line.classes} classes" if self.line.classes > 1 else ""
-        answer = [f"{self.name}: {self._given} {self._staff_word.lower()}{classes}."]
+        answer = [f"{self.name}: {self._staff_word.lower()} {self._given}{classes}."]
         if self._shifts is not None:
             rows = ", ".join(f"{staff} from {tick}" for tick, staff in self._shifts.rows)
             again = f", again each {self._shifts.period} ticks" if self._shifts.period else ""
