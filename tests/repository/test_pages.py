@@ -24,6 +24,9 @@ LINKED = ("examples", "docs", "tools", "lab", "share", "cases")
 PAGES = [path for path in kept_files("*.md") if commands(path.read_text())]
 SHOWN = 20
 
+# What a shell and Python say of a program or a package that isn't there.
+MISSING = (r"^sh: \d+: (\S+): not found$", r"^ModuleNotFoundError: No module named '(\S+)'$")
+
 
 def furnish(folder: Path, program: Program) -> dict[str, str]:
     """Fill a folder with what commands may name, and answer their environment."""
@@ -55,8 +58,9 @@ def complaint(command: Command, folder: Path, environment: dict[str, str]) -> st
     output = ran.stdout.decode("utf-8", "backslashreplace").splitlines()
     if is_shown(output, command.shown):
         return None
-    if missing := re.search(r"^sh: \d+: (\S+): not found$", "\n".join(output), re.MULTILINE):
-        return f"line {command.line}: {missing[1]} isn't installed, and this needs it"
+    for form in MISSING:
+        if missing := re.search(form, "\n".join(output), re.MULTILINE):
+            return f"line {command.line}: {missing[1]} isn't installed, and this needs it"
     lines = difflib.unified_diff(essence(command.shown), essence(output), lineterm="", n=1)
     text = "\n".join(f"    {line}" for line in list(lines)[2 : 2 + SHOWN])
     return f"line {command.line}: {command.text}\n{text}"

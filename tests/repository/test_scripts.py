@@ -45,7 +45,7 @@ def finds_nothing(*words: str | Path, **environment: str) -> None:
 @pytest.mark.parametrize("script", SHELL, ids=lambda path: str(path.relative_to(TOP)))
 def test_shell(script: Path, needs: Callable[[str], str]) -> None:
     """Shellcheck finds nothing in a script."""
-    finds_nothing(needs("shellcheck"), "-s", "sh", "-f", "gcc", script)
+    finds_nothing(needs("shellcheck"), "-x", "-s", "sh", "-f", "gcc", script)
 
 
 @pytest.mark.parametrize("folder", ["tests", "lab"])
