@@ -5,8 +5,10 @@ from __future__ import annotations
 import io
 import json
 import subprocess
+import sys
 from collections.abc import Callable
 from pathlib import Path
+from typing import Any
 
 import numpy as np
 import pytest
@@ -45,8 +47,8 @@ def bank(lab: Lab, tmp_path: Path) -> Path:
     return path
 
 
-def rows(text: str) -> list[dict[str, float]]:
-    made: list[dict[str, float]] = json.loads(text)
+def rows(text: str) -> list[dict[str, Any]]:
+    made: list[dict[str, Any]] = json.loads(text)
     return made
 
 
@@ -106,7 +108,16 @@ def test_observations(lab: Lab) -> None:
 
 def test_enough(lab: Lab, tmp_path: Path) -> None:
     kept = tmp_path / "kept.csv"
-    words = ["enough", BANK, "QUEUE.average", "0.2", "--until", 600, "--worst", "QUEUE.average=0..12"]
+    words = [
+        "enough",
+        BANK,
+        "QUEUE.average",
+        "0.2",
+        "--until",
+        600,
+        "--worst",
+        "QUEUE.average=0..12",
+    ]
     made = rows(lab(*words, "--json", "--keep", kept))[0]
     assert made["half_width"] <= 0.2 and len(Report.read(kept)) == made["n"]
     assert "runs" in lab(*words[:3], "0.001", *words[4:], "--most", 60, status=4)
@@ -228,6 +239,6 @@ def test_no_words_end_in_a_traceback(
 
 def test_words_of_bytes_that_are_no_text() -> None:
     """Options and names may have any bytes."""
-    line = ["/usr/bin/python3", "-m", "sigma_lab", "means", b"\xff.average", b"\xfe"]
+    line: list[str | bytes] = [sys.executable, "-m", "sigma_lab", "means", b"\xff.average", b"\xfe"]
     made = subprocess.run(line, env=environment(), capture_output=True)
     assert made.returncode == 2 and b"Traceback" not in made.stderr

@@ -3,6 +3,7 @@
 from __future__ import annotations
 
 import tracemalloc
+from collections.abc import Iterator
 
 import numpy as np
 import pytest
@@ -111,9 +112,9 @@ def test_arrays_and_truth_values() -> None:
     assert waiting == ["WAITING[0]", "WAITING[1]", "WAITING[2]"]
 
 
-@pytest.mark.parametrize("path", sorted(EXAMPLES.glob("answers/*.run")), ids=lambda path: path.stem)
-def test_histories_of_the_examples_are_read(path: object) -> None:
-    text = path.read_text()  # type: ignore[attr-defined]
+@pytest.mark.parametrize("name", [path.name for path in sorted(EXAMPLES.glob("answers/*.run"))])
+def test_histories_of_the_examples_are_read(name: str) -> None:
+    text = (EXAMPLES / "answers" / name).read_text()
     made = History.parse(text)
     assert len(made) == text.count("\n") - 1 and text.splitlines()[-1].startswith(made.outcome)
 
@@ -122,7 +123,7 @@ def test_a_long_history_takes_8_bytes_for_each_value() -> None:
     """10^6 notes of one value took 405 MB."""
     lines = 40_000
 
-    def blocks():  # type: ignore[no-untyped-def]
+    def blocks() -> Iterator[bytes]:
         for at in range(0, lines, 1000):
             yield "".join(f"at {k} X={k % 7}\n" for k in range(at, at + 1000)).encode()
         yield f"stopped {lines}\n".encode()

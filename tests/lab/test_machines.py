@@ -11,8 +11,8 @@ from collections.abc import Iterator
 from pathlib import Path
 from typing import Any
 
+import distributed
 import pytest
-from distributed import Client, LocalCluster
 from lab import EXAMPLES, PACKAGE, command, environment, example
 
 from sigma_lab import program
@@ -23,13 +23,17 @@ from sigma_lab.replication import observe, replicate
 BANK = example("bank")
 
 
+Client = Any
+
+
 @pytest.fixture(scope="module")
 def client() -> Iterator[Client]:
     """Two workers, each a process of its own."""
     os.environ["PYTHONPATH"] = str(PACKAGE)
-    with LocalCluster(
+    begin: Any = distributed
+    with begin.LocalCluster(
         n_workers=2, threads_per_worker=1, processes=True, dashboard_address=None
-    ) as cluster, Client(cluster) as made:
+    ) as cluster, begin.Client(cluster) as made:
         yield made
 
 

@@ -60,6 +60,7 @@ def test_units_scale_estimates_and_leave_numbers_exact() -> None:
     assert made.above.tolist() == [200, 500] and made.scale == 1 / 60 and made.unit == "hours"
     assert SMALL.sample("C/W in %").scale == 100
     made = SMALL.sample(ratio("W", "C", scale=60, unit="min"))
+    assert made.below is not None
     assert (made.scale, made.unit, sum(made.above), sum(made.below)) == (60, "min", 120, 4)
 
 
@@ -117,13 +118,12 @@ def test_words_that_ask_for_nothing(words: str, why: str) -> None:
 
 
 def test_an_unknown_column_is_refused_in_python_too() -> None:
-    for make in (
-        lambda: item("Q", "mean"),
-        lambda: Measure("Q", scale=0.0),
-        lambda: ratio("", "C"),
-    ):
-        with pytest.raises(InputError):
-            make()
+    with pytest.raises(InputError):
+        item("Q", "mean")
+    with pytest.raises(InputError):
+        Measure("Q", scale=0.0)
+    with pytest.raises(InputError):
+        ratio("", "C")
 
 
 def test_formulas_are_exact_on_whole_numbers() -> None:

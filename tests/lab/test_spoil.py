@@ -3,6 +3,7 @@
 from __future__ import annotations
 
 import sys
+from functools import cache
 from pathlib import Path
 
 import pytest
@@ -11,12 +12,12 @@ sys.path.insert(0, str(Path(__file__).parent / "spoil"))
 
 import spoil  # noqa: E402
 
-TEXTS = spoil.texts()
+texts = cache(spoil.texts)
 
 
-@pytest.mark.parametrize("name", list(TEXTS))
+@pytest.mark.parametrize("name", spoil.NAMES)
 def test_spoilt_texts_are_refused_or_say_what_is_read(name: str) -> None:
-    whole = TEXTS[name]
+    whole = texts()[name]
     step = max(1, len(whole) * 258 // 800) | 1
     counts = spoil.spoil(name, whole, step)
     refused = sum(number for (_, found), number in counts.items() if found == "refused")
@@ -25,7 +26,7 @@ def test_spoilt_texts_are_refused_or_say_what_is_read(name: str) -> None:
 
 def test_each_kind_of_change_to_a_total_or_its_rows_is_refused() -> None:
     """Areas, counts, items and runs have totals: no change of a digit of theirs is taken."""
-    whole = TEXTS["a report of three items"]
+    whole = texts()["a report of three items"]
     lines = whole.splitlines(keepends=True)
     offset = 0
     for line in lines:

@@ -26,6 +26,7 @@ from sigma_lab.replication import replicate  # noqa: E402
 from sigma_lab.report import Report  # noqa: E402
 
 BANK = (TOP / "examples" / "bank.sigma").read_text()
+NAMES = ("a report of three items", "a report of one item", "a report of the lab", "a history")
 NO_TOTAL = {"seed", "outcome", "time", "least", "greatest", "last"}
 
 
@@ -121,12 +122,13 @@ def texts() -> dict[str, bytes]:
     history = ["run", "--until=200", "--seed=1", "--events=100000"]
     seen = BANK.replace("watch QUEUE, IDLE, CLOSE", "watch QUEUE, IDLE, ARRIVE")
     lab = replicate(BANK, Plan(600, runs=3, workers=1)).to_csv(with_provenance=True)
-    return {
-        "a report of three items": program.call(words, BANK),
-        "a report of one item": program.call(words, one),
-        "a report of the lab": lab.encode(),
-        "a history": program.call(history, seen),
-    }
+    made = (
+        program.call(words, BANK),
+        program.call(words, one),
+        lab.encode(),
+        program.call(history, seen),
+    )
+    return dict(zip(NAMES, made))
 
 
 def spoil(name: str, whole: bytes, step: int = 1) -> Counter[tuple[str, str]]:
