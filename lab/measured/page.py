@@ -11,20 +11,36 @@ from pathlib import Path
 from rows import kept
 
 PAGE = Path(__file__).resolve().parents[2] / "docs" / "use" / "statistics.md"
+FEWEST = {
+    "share of runs": 1,
+    "ratio of totals": 50,
+    "lognormal, cv 3": 200,
+    "large on 3 % of runs": 100,
+    "M/M/1, load 0.8": 50,
+}
+"""The documented fewest runs, by method or by law; else 10."""
+
 LAWS = ("normal", "exponential", "lognormal, cv 3", "large on 3 % of runs")
 
 
+def is_enough(row: dict[str, str]) -> bool:
+    """Whether a row is of a default method, with no fewer runs than are documented."""
+    fewest = FEWEST.get(row["method"], FEWEST.get(row["law"], 10))
+    if row["method"].startswith("difference"):
+        fewest = 10
+    return not row["method"].endswith("method t") and int(row["runs"].split()[-1]) >= fewest
+
+
 def coverage() -> str:
-    """The intervals that are defaults: a row for each method and law, with the share for each number of runs."""
-    rows = [row for row in kept("coverage") if not row["method"].endswith("method t")]
-    lines = ["| interval | law | runs: holds, % |", "|---|---|---|"]
-    for method, law in dict.fromkeys((row["method"], row["law"]) for row in rows):
-        cells = []
-        for row in rows:
-            if (row["method"], row["law"]) == (method, law):
-                note = f" ({row['note']})" if row["note"] else ""
-                cells.append(f"{row['runs']}: {row['share']}{note}")
-        lines.append(f"| {method} | {law} | {', '.join(cells)} |")
+    """The intervals: for each method and law the row with the fewest runs that are enough."""
+    lines = ["| interval | law | runs | holds, % |", "|---|---|---|---|"]
+    shown: set[tuple[str, str]] = set()
+    for row in filter(is_enough, kept("coverage")):
+        method, law = row["method"], row["law"]
+        if (method, law) not in shown:
+            shown.add((method, law))
+            note = f", {row['note']}" if row["note"].startswith("no upper") else ""
+            lines.append(f"| {method} | {law} | {row['runs']} | {row['share']}{note} |")
     return "\n".join(lines)
 
 

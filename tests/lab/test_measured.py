@@ -14,8 +14,6 @@ sys.path.insert(0, str(MEASURED))
 import page  # noqa: E402
 import rows  # noqa: E402
 
-FEWEST = {"lognormal, cv 3": 200, "large on 3 % of runs": 100}
-
 
 def test_the_page_has_what_was_measured():
     text = page.PAGE.read_text(encoding="utf-8")
@@ -30,14 +28,9 @@ def test_no_decision_that_is_promised_at_5_is_above_7():
 
 
 def test_no_default_holds_below_92_at_its_fewest_runs():
-    low = []
-    for row in rows.kept("coverage"):
-        runs = row["runs"].removeprefix("1 of ")
-        if row["method"].endswith("method t") or int(runs) < FEWEST.get(row["law"], 10):
-            continue
-        if float(row["share"]) < 92:
-            low.append(row)
-    assert not low
+    rows_of = [row for row in rows.kept("coverage") if page.is_enough(row)]
+    assert len({row["method"] for row in rows_of}) > 10
+    assert not [row for row in rows_of if float(row["share"]) < 92]
 
 
 @pytest.mark.parametrize("script", ["coverage", "decisions", "precision"])
