@@ -26,7 +26,7 @@ from sigma_lab.errors import NoEstimate  # noqa: E402
 from sigma_lab.estimates import Estimate  # noqa: E402
 from sigma_lab.observations import Observations  # noqa: E402
 
-SERIES = 2000
+SERIES = 1000
 
 
 def holds(made: Estimate, truth: float) -> bool:
@@ -143,7 +143,7 @@ def queue(generator: Generator, runs: int, customers: int, load: float = 0.8) ->
 
 def at_events(runs: int) -> list[Row]:
     """Values at events, in runs of 500 customers of M/M/1 with load 0.8."""
-    truth = queue(np.random.default_rng(10**6), 20_000, 500).ravel()
+    truth = queue(np.random.default_rng(10**6), 10_000, 500).ravel()
     seed, size = np.arange(runs, dtype=np.uint64), 500
     wanted: dict[str, tuple[Callable[[Observations], Estimate], float]] = {
         "mean at an event": (clusters.mean, float(truth.mean())),
@@ -169,7 +169,7 @@ def at_events(runs: int) -> list[Row]:
 
 def long_runs(correlation: float, length: int) -> list[Row]:
     """Batch means of one run of a series whose logarithm is autoregressive."""
-    series = SERIES // 5
+    series = SERIES // 10
     wanted: dict[str, tuple[Callable[[Floats], Any], float]] = {
         "batch means": (lambda x: stats.batch_means(_areas(x), 0, len(x)), math.exp(0.125)),
         "batch quantile 0.9": (
@@ -205,20 +205,17 @@ def _areas(values: Floats) -> Callable[[Any], Any]:
 
 def main() -> None:
     """Measures all of it, and keeps it."""
-    rows: list[Row] = []
+    rows: list[Row] = [shares(20), *at_events(20), *at_events(50)]
+    rows += long_runs(0.9, 40_000) + long_runs(0.98, 200_000)
     for law, sizes in zip(LAWS, ((5, 10, 50), (5, 10, 50), (10, 50, 200), (50, 100, 200))):
         for runs in sizes:
             rows += means(law, runs)
-    rows.append(shares(20))
     rows += [ratios(runs) for runs in (10, 50)]
     rows += [quantiles(LAWS[1], p, 100) for p in (0.5, 0.9, 0.99)]
     rows += [predictions(law, runs) for law in LAWS[:2] for runs in (20, 100)]
     for law in LAWS[:3]:
         rows += differences(law, 50)
     rows.append(best_of_five(LAWS[0], 30))
-    rows += [each for runs in (20, 50) for each in at_events(runs)]
-    rows += long_runs(0.9, 40_000)
-    rows += long_runs(0.98, 400_000)
     keep("coverage", rows)
 
 

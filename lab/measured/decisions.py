@@ -1,6 +1,6 @@
 """How often decisions are wrong, where 5 per cent are promised.
 
-    python3 lab/measured/decisions.py
+    python3 lab/measured/decisions.py [--series N] [LAW ..]
 
 Each series of runs is one whole decision, as `search` and `select_best` make it.  The truth lies
 just beyond the bound, which is where a decision errs most often.
@@ -16,7 +16,7 @@ import numpy as np
 sys.path.insert(0, str(Path(__file__).resolve().parents[1]))
 
 from laws import LAWS, Floats, Law  # noqa: E402
-from rows import Row, keep, row  # noqa: E402
+from rows import Row, chosen, keep, row  # noqa: E402
 
 from sigma_lab.choosing import Contest  # noqa: E402
 from sigma_lab.measures import Sample, item  # noqa: E402
@@ -39,7 +39,7 @@ def decided(target: Target, law: Law, values: Floats, risk: float) -> tuple[str,
     return decide(target, sample_of(values), limits, risk)
 
 
-def targets(law: Law) -> list[Row]:
+def targets(law: Law, series: int) -> list[Row]:
     """Wrongly met, and wrongly passed over."""
     made, margin = [], MARGINS.get(law.name, 0.5)
     for sense, sign in (("<=", -1.0), (">=", 1.0)):
@@ -48,8 +48,8 @@ def targets(law: Law) -> list[Row]:
             bound = 1 + sign * 0.001 if error == "met" else 1 - sign * margin * 1.001
             target = Target(item("X"), sense, bound, margin)  # type: ignore[arg-type]
             wrong, took = [], []
-            for series in range(SERIES):
-                values = law.draw(np.random.default_rng(series), MOST)
+            for number in range(series):
+                values = law.draw(np.random.default_rng(number), MOST)
                 state, runs = decided(target, law, values, RISK)
                 wrong.append(
                     state == "meets" if error == "met" else state in ("misses", "passed over")
@@ -60,33 +60,33 @@ def targets(law: Law) -> list[Row]:
     return made
 
 
-def searches(law: Law) -> Row:
+def searches(law: Law, series: int) -> Row:
     """Four designs, the third one just misses the bound, the fourth one is better by the margin."""
     sense: Sense = "<="
     margin = MARGINS.get(law.name, 0.5)
     target = Target(item("X"), sense, 1.0, margin)
     wrong, took = [], []
-    for series in range(SERIES // 2):
-        generator, chosen, all_runs = np.random.default_rng(series), -1, 0
+    for number in range(series // 2):
+        generator, taken, all_runs = np.random.default_rng(number), -1, 0
         for design, mean in enumerate((1 + 2 * margin, 1 + margin, 1.001, 1 - 1.01 * margin)):
             values = law.draw(generator, MOST) * mean
             wide = Law(law.name, law.draw, law.greatest * mean, law.least * mean)
             state, runs = decided(target, wide, values, RISK / 4)
             all_runs += runs
             if state == "meets":
-                chosen = design
+                taken = design
                 break
-        wrong.append(chosen not in (3, -1) or chosen == -1 and state != "more")
+        wrong.append(taken not in (3, -1) or taken == -1 and state != "more")
         took.append(all_runs)
     return row("search, 4 designs", law.name, round(np.mean(took)), 5, wrong)
 
 
-def selections(law: Law, designs: int) -> Row:
+def selections(law: Law, designs: int, series: int) -> Row:
     """The best of some designs, the others behind by the indifference, under common random numbers."""
     by = 2 * MARGINS.get(law.name, 0.5)
     wrong, took, undecided = [], [], 0
-    for series in range(SERIES // 4):
-        generator = np.random.default_rng(series)
+    for number in range(series // 4):
+        generator = np.random.default_rng(number)
         common = law.draw(generator, MOST)
         values = {
             k: 0.5 * (common + law.draw(generator, MOST)) - by * (k > 0) for k in range(designs)
@@ -107,13 +107,12 @@ def selections(law: Law, designs: int) -> Row:
 
 
 def main() -> None:
-    """Measures all of it, and keeps it."""
-    rows: list[Row] = []
-    for law in LAWS:
-        rows += targets(law)
-        rows.append(searches(law))
-        rows += [selections(law, designs) for designs in (2, 5)]
-    keep("decisions", rows)
+    """Measures what the words ask for, and keeps it."""
+    series, names = chosen("How often decisions are wrong.", SERIES, [law.name for law in LAWS])
+    for law in (law for law in LAWS if law.name in names):
+        keep("decisions", targets(law, series))
+        keep("decisions", [searches(law, series)])
+        keep("decisions", [selections(law, designs, series) for designs in (2, 5)])
 
 
 if __name__ == "__main__":

@@ -1,6 +1,6 @@
 """How often an interval misses the mean that `run_until_precise` ends with, where 5 per cent are promised.
 
-    python3 lab/measured/precision.py
+    python3 lab/measured/precision.py [--series N] [LAW ..]
 """
 
 from __future__ import annotations
@@ -14,7 +14,7 @@ import numpy as np
 sys.path.insert(0, str(Path(__file__).resolve().parents[1]))
 
 from laws import LAWS, Law  # noqa: E402
-from rows import Row, keep, row  # noqa: E402
+from rows import Row, chosen, keep, row  # noqa: E402
 
 from sigma_lab import estimators  # noqa: E402
 from sigma_lab.narrowing import Goal, inner_level, needed_runs  # noqa: E402
@@ -22,12 +22,12 @@ from sigma_lab.narrowing import Goal, inner_level, needed_runs  # noqa: E402
 SERIES = 1000
 
 
-def precisions(law: Law, relative: float) -> Row:
+def precisions(law: Law, relative: float, series: int) -> Row:
     """An interval that is narrow enough misses the mean."""
     goal, bounds = Goal(relative=relative), (law.least, law.greatest)
     wrong, took = [], []
-    for series in range(SERIES):
-        values = law.draw(np.random.default_rng(series), 60_000)
+    for number in range(series):
+        values = law.draw(np.random.default_rng(number), 60_000)
         runs = 50
         while True:
             made = estimators.mean(values[:runs], bounds=bounds, confidence_level=inner_level(0.95))
@@ -43,8 +43,10 @@ def precisions(law: Law, relative: float) -> Row:
 
 
 def main() -> None:
-    """Measures all of it, and keeps it."""
-    keep("precision", [precisions(law, relative) for law in LAWS for relative in (0.1, 0.3)])
+    """Measures what the words ask for, and keeps it."""
+    series, names = chosen("How often intervals miss.", SERIES, [law.name for law in LAWS])
+    for law in (law for law in LAWS if law.name in names):
+        keep("precision", [precisions(law, relative, series) for relative in (0.1, 0.3)])
 
 
 if __name__ == "__main__":

@@ -2,9 +2,10 @@
 
 from __future__ import annotations
 
+import argparse
 import csv
 import math
-from collections.abc import Iterable
+from collections.abc import Iterable, Sequence
 from dataclasses import asdict, dataclass, fields
 from pathlib import Path
 
@@ -38,7 +39,7 @@ class Row:
     method: str
     law: str
     runs: str
-    promised: float
+    promised: int
     share: float
     error: float
     series: int
@@ -49,7 +50,7 @@ def row(
     method: str,
     law: str,
     runs: object,
-    promised: float,
+    promised: int,
     hits: Iterable[bool],
     note: str = "",
 ) -> Row:
@@ -65,11 +66,33 @@ def row(
 
 
 def keep(name: str, rows: list[Row]) -> None:
-    """Writes the rows of a script beside it."""
-    with open(HERE / f"{name}.csv", "w", newline="", encoding="ascii") as file:
+    """Writes the rows of a script beside it, in place of older ones of the same method, law and number of runs."""
+    path = HERE / f"{name}.csv"
+    new = [{key: str(value) for key, value in asdict(each).items()} for each in rows]
+    if path.exists():
+        keys = {_key(each) for each in new}
+        new = [each for each in kept(name) if _key(each) not in keys] + new
+    with open(path, "w", newline="", encoding="ascii") as file:
         table = csv.DictWriter(file, [each.name for each in fields(Row)], lineterminator="\n")
         table.writeheader()
-        table.writerows(asdict(each) for each in rows)
+        table.writerows(new)
+
+
+def _key(row: dict[str, str]) -> tuple[str, str, str]:
+    """Decisions take as many runs as they need, so these don't tell rows apart."""
+    return row["method"], row["law"], row["runs"] if row["promised"] == "95" else ""
+
+
+def chosen(about: str, series: int, names: Sequence[str]) -> tuple[int, list[str]]:
+    """How many series are measured, and under which laws, by the words of the command line."""
+    parser = argparse.ArgumentParser(description=about)
+    parser.add_argument("--series", type=int, default=series, help=f"how many ({series})")
+    parser.add_argument("laws", nargs="*", metavar="LAW", help=", ".join(names))
+    words = parser.parse_args()
+    unknown = set(words.laws) - set(names)
+    if unknown:
+        parser.error(f"no law {min(unknown)}; there are {', '.join(names)}")
+    return words.series, words.laws or list(names)
 
 
 def kept(name: str) -> list[dict[str, str]]:
