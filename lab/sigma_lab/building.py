@@ -12,46 +12,18 @@ from __future__ import annotations
 from collections.abc import Iterable, Mapping
 from dataclasses import replace
 from types import TracebackType
-from typing import Any, Protocol, TypeVar, Union
+from typing import Any, TypeVar, Union
 
 from . import parse, writing
 from .body import Body
 from .errors import InputError
+from .part import Part
 from .terms import Array, TableName, Term, Value
 from .tree import ByTable, EventGraph, Name, Table, Uniform, Variable, Vertex, walk
 
 Rows = Union[Mapping[int, int], Iterable[tuple[int, int]], str]
 STREAMS = 64
 P = TypeVar("P", bound="Part")
-
-
-class Part(Protocol):
-    """Something that writes variables and events of a model, as a resource with its queue does.
-
-    A model asks its parts for what they write each time it is put together, so a part may still change.
-    """
-
-    @property
-    def name(self) -> str:
-        ...
-
-    def complete(self) -> None:
-        """Raises InputError if something is missing."""
-
-    def variables(self) -> Iterable[Variable]:
-        """What it declares."""
-
-    def opening(self, e: Body) -> None:
-        """Adds what is done at time 0."""
-
-    def vertices(self) -> Iterable[Vertex]:
-        """Its events."""
-
-    def notes(self) -> Mapping[str, str]:
-        """A comment for each name that a reader should know."""
-
-    def outline(self) -> list[str]:
-        """What it is, in sentences for a planner."""
 
 
 class Building:

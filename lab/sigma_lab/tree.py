@@ -186,7 +186,9 @@ class EventGraph:
 
     @property
     def names(self) -> set[str]:
-        return {each.name for part in (self.variables, self.tables, self.vertices) for each in part}
+        """The names of all variables, tables and vertices."""
+        names = {each.name for each in self.variables} | {each.name for each in self.tables}
+        return names | {each.name for each in self.vertices}
 
 
 def walk(part: object) -> Iterator[object]:
