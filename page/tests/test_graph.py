@@ -29,7 +29,7 @@ def paper(page: Browser, right: float, down: float) -> tuple[float, float]:
 
 def test_a_drag_spoils_no_other_line_and_is_one_step(page: Browser) -> None:
     """Routes stay while both of their ends stay; Undo brings all of them back."""
-    before = page.js(f"return {PATHS}")
+    before, whole = page.js(f"return [{PATHS}, JSON.stringify({PATHS})]")
     x, y = page.middle(event("LEAVE"))
     page.drag([(x, y), (x + 20, y + 8), (x + 48, y + 16)])
     page.until("sigma.store.doc.text.includes('# places')")
@@ -40,11 +40,7 @@ def test_a_drag_spoils_no_other_line_and_is_one_step(page: Browser) -> None:
     }
     page.click('[aria-label^="Undo"]')
     page.until("!sigma.store.doc.text.includes('# places')")
-    page.until(
-        f"JSON.stringify({PATHS}) === values[0]", 20, page.js(f"return JSON.stringify({PATHS})")
-    )
-    page.until("!sigma.app.canvas.busy")
-    assert page.js(f"return {PATHS}") == before
+    page.until(f"JSON.stringify({PATHS}) === values[0]", 20, whole)
 
 
 def test_a_double_click_draws_there_and_the_paper_stands_still(page: Browser) -> None:
