@@ -19,6 +19,7 @@ from bundle import PAGE, BuildError, Bundle, bundle
 from gallery import ROOT, examples, questions, run_words
 from licences import licences
 
+FIRST = "bank"  # the example that a page shows that nobody has used before
 GIVEN = "none: this page was made with a module that was given by hand"
 NATIVE = "none: this page asks the native program, for development"
 
@@ -40,7 +41,7 @@ def _as_json(value: object) -> str:
     return json.dumps(value, separators=(",", ":"), sort_keys=True).replace("<", "\\u003c")
 
 
-def page_of(parts: Bundle, module: bytes, data: dict[str, object], native: str) -> str:
+def page_of(parts: Bundle, module: bytes, data: dict[str, object], texts: str, native: str) -> str:
     """Return the page.
 
     Parameters
@@ -51,6 +52,8 @@ def page_of(parts: Bundle, module: bytes, data: dict[str, object], native: str) 
         The program as WebAssembly; empty if the page asks the native program.
     data
         What the page knows beside it: the verdict, the words and questions of the examples.
+    texts
+        The texts of the examples, as JSON.
     native
         Where the native program answers, or nothing.
     """
@@ -66,10 +69,11 @@ def page_of(parts: Bundle, module: bytes, data: dict[str, object], native: str) 
 <meta name="viewport" content="width=device-width,initial-scale=1">
 <meta http-equiv="Content-Security-Policy" content="{policy}">
 <style>{parts.style}</style></head><body>
-<script id="licences" type="text/plain">{_safe(licences(parts.foreign))}</script>
+<script id="licences" type="text/plain">{_packed(licences(parts.foreign).encode())}</script>
 <script id="wasm" type="text/plain">{_packed(module) if module else ""}</script>
-<script id="worker" type="text/plain">{_safe(parts.worker)}</script>
-<script id="layout" type="text/plain">{_safe(parts.layout)}</script>
+<script id="worker" type="text/plain">{_packed(parts.worker.encode())}</script>
+<script id="layout" type="text/plain">{_packed(parts.layout.encode())}</script>
+<script id="examples" type="text/plain">{_packed(texts.encode())}</script>
 <script id="data" type="application/json">{_as_json(data)}</script>
 <script>{script}</script>
 </body></html>
@@ -98,15 +102,17 @@ def make(module: Path | None, native: str) -> Path:
         raise BuildError(f"no module is {file}")
     kept = out / "verdict"
     verdict = NATIVE if native else GIVEN if module else kept.read_text(encoding="utf-8").strip()
+    texts = examples(out)
     data: dict[str, object] = {
-        "examples": examples(out),
+        "examples": {FIRST: texts[FIRST]},
         "native": native,
         "questions": questions(),
         "verdict": verdict,
         "version": _version(),
         "words": run_words(),
     }
-    page = page_of(bundle(), b"" if native else file.read_bytes(), data, native)
+    module_bytes = b"" if native else file.read_bytes()
+    page = page_of(bundle(), module_bytes, data, json.dumps(texts, sort_keys=True), native)
     to = out / ("sigma-native.html" if native else "sigma.html")
     beside = to.with_suffix(".new")
     beside.write_text(page, encoding="utf-8")

@@ -1,88 +1,84 @@
-"""Makes the pictures of docs/use/page.md where --shots names a folder, and sees that each shows what the page says of it."""
+"""Writes the pictures of docs/use/page.md: `python3 page/tests/pictures.py PAGE FOLDER`."""
 
-import os
+from __future__ import annotations
 
-# A picture: its name, its size, how the page gets there, and what must then be so.
-PICTURES = [
-    (
-        "page",
-        1060,
-        660,
-        "await app.set_text(given.bank, 'bank.sigma'); app.select('SERVE', undefined, false); app.editor.cm.scrollTo(0, 300);"
-        " document.getElementById('run-go').click(); while (!document.querySelector('#run-values tr')) await wait(50);"
-        " document.getElementById('run-slider').value = 40; document.getElementById('run-slider').dispatchEvent(new Event('input')); await wait(400)",
-        "document.querySelectorAll('#run-courses svg').length > 0",
-    ),
-    (
-        "page_edge",
-        1120,
-        560,
-        "await app.set_text(given.desk, 'desk.sigma'); app.select('ARRIVE', 0)",
-        "document.querySelector('[data-field=how]').value === 'evenly'",
-    ),
-    (
-        "page_refused",
-        1120,
-        480,
-        "await app.set_text(given.desk.replace('set FREE := true', 'set FREE = true'), 'desk.sigma');"
-        " app.editor.cm.scrollIntoView({ line: app.place.line, ch: 0 }, 120)",
-        "document.querySelector('.says').textContent.includes('write :=')",
-    ),
-    (
-        "page_experiments",
-        1060,
-        620,
-        "splitters.set(at('split-text'), 180); splitters.set(at('split-panel'), 400); splitters.set(at('split-form'), 200);"
-        " await app.set_text(given.bank.replace('0..2 = 2', '0..3 = 3'), 'bank.sigma'); tabs.open('experiments');"
-        " Object.assign(at('until'), { value: 600 }); Object.assign(at('seed'), { value: 1 }); at('exp-runs').value = 1000;"
-        " designs.list = [{ name: 'three tellers', text: null, start: '', is_taken: true },"
-        " { name: 'two tellers', text: given.bank, start: '', is_taken: true }]; designs.changed(); await experiments.go()",
-        "at('exp-table').textContent.includes('two tellers - three tellers')",
-    ),
-    (
-        "page_reduce",
-        1000,
-        600,
-        "splitters.set(at('split-panel'), 300); await app.set_text(given.polling, 'polling.sigma'); tabs.open('reduce');"
-        " await reducing.go('reduce'); document.activeElement.blur()",
-        "document.querySelectorAll('#picture .node.gone').length === 2 && document.getElementById('reduce-verdict').textContent.endsWith('sound')",
-    ),
-    (
-        "page_sideways",
-        1120,
-        560,
-        "document.getElementById('turn').click(); await app.set_text(given.shop, 'shop.sigma'); tabs.open('run'); splitters.set(document.getElementById('split-panel'), 34);"
-        " splitters.set(document.getElementById('split-text'), 180); splitters.set(document.getElementById('split-form'), 200);"
-        " await wait(200); app.picture.fit()",
-        "app.picture.at.get('LEAVE').x > app.picture.at.get('ARRIVE').x",
-    ),
-    (
-        "page_gallery",
-        1000,
-        600,
-        "document.getElementById('turn').click(); await app.set_text(given.bank, 'bank.sigma'); document.getElementById('examples-open').click();"
-        " while (document.querySelectorAll('#cards .thumb').length < 12) await wait(50)",
-        "document.querySelectorAll('.card').length > 20",
-    ),
-]
+import sys
+import time
+from pathlib import Path
+
+from conftest import wait_for_model
+from drive.browser import Browser
+from drive.chromium import Chromium
+
+ACCEPTED = "sigma.store.verdict.state === 'accepted'"
 
 
-def test(browser, check, given, shots):
-    examples = {name: given["examples"][name] for name in ("bank", "desk", "polling", "shop")}
-    browser.run("theme.set('light')")
-    for name, width, height, how, holds in PICTURES:
-        browser.size(width, height)
-        browser.run(
-            "const given = values[0], wait = time => new Promise(done => setTimeout(done, time));"
-            f" {how}; await wait(300)",
-            examples,
-        )
-        check(f"{name} shows what it is for", browser.run(f"return Boolean({holds})"))
-        if shots:
-            file = f"{shots}/{name}.png"
-            browser.shot(file)
-            check(
-                f"{name} is at most 200 KB", os.path.getsize(file) <= 200000, os.path.getsize(file)
-            )
-    browser.run("document.querySelector('dialog[open]').close()")
-    browser.size(1400, 900)
+def _fresh(page: Browser, address: str) -> None:
+    page.open("about:blank")
+    page.open(address)
+    page.js("localStorage.clear(); Storage.prototype.setItem = () => {}")
+    page.open("about:blank")
+    page.open(address)
+    wait_for_model(page)
+    time.sleep(0.8)
+
+
+def take(page: Browser, address: str, folder: Path) -> None:
+    """Take each picture."""
+
+    def shot(name: str) -> None:
+        time.sleep(1)
+        page.shot(str(folder / f"{name}.png"))
+
+    _fresh(page, address)
+    page.js("sigma.command('text-pane'); sigma.command('run')")
+    page.until("sigma.run.result", 60)
+    page.js("sigma.run.step(40)")
+    page.js("sigma.app.pick({ kind: 'event', name: 'SERVE' })")
+    shot("page")
+    page.js(
+        "sigma.command('text-pane'); sigma.app.pick({ kind: 'edge', from: 'ARRIVE', place: 0 })"
+    )
+    shot("page_edge")
+    page.js("sigma.store.edit(sigma.store.doc.text.replace('QUEUE + 1', 'QEUE + 1'), 'Typing')")
+    page.until("sigma.store.verdict.state === 'refused'")
+    page.js("sigma.app.show_fault()")
+    shot("page_refused")
+    _fresh(page, address)
+    page.js("sigma.store.edit(sigma.store.doc.text.replace('0..500', '0..2'), 'Typing')")
+    page.until(ACCEPTED)
+    page.js("sigma.command('run')")
+    page.until("document.querySelector('.fault-box button')", 60)
+    page.click(".fault-box button")
+    shot("page_fault")
+    _fresh(page, address)
+    page.click("#tab-experiments")
+    page.click(".card.add")
+    page.until("sigma.store.doc.designs.length === 2")
+    page.js("sigma.store.edit(sigma.store.doc.text.replace('0..2 = 2', '0..3 = 3'), 'Typing')")
+    page.until(ACCEPTED)
+    page.js("sigma.command('experiment')")
+    page.until("sigma.experiments.outcomes.length === 2 && !sigma.experiments.busy()", 180)
+    shot("page_experiments")
+    page.js("sigma.open_example('polling')")
+    page.until(f"{ACCEPTED} && sigma.store.shown.name === 'POLLING'")
+    page.js("sigma.command('reduce')")
+    page.until("document.querySelector('.checks .good')", 60)
+    shot("page_reduce")
+    page.js("sigma.command('examples')")
+    time.sleep(6)
+    shot("page_gallery")
+
+
+def main() -> None:
+    """Take the pictures of the page that is named."""
+    page, folder = Path(sys.argv[1]).resolve(), Path(sys.argv[2])
+    browser = Chromium(str(folder))
+    try:
+        take(browser, page.as_uri(), folder)
+    finally:
+        browser.quit()
+
+
+if __name__ == "__main__":
+    main()

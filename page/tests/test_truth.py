@@ -4,6 +4,8 @@ from __future__ import annotations
 
 import time
 
+import pytest
+
 from conftest import wait_for_model
 from drive.browser import Browser
 
@@ -146,12 +148,18 @@ def test_a_view_keeps_the_run(page: Browser) -> None:
     page.until("document.querySelector('.node.lit')")
 
 
-def test_bad_settings_are_marked(page: Browser) -> None:
-    """Numbers are read as people write them; what is none is marked, and nothing runs."""
+@pytest.mark.chromium  # Firefox without a window tells no field that it is left.
+def test_settings_are_read_as_people_write_them(page: Browser) -> None:
+    """1e6 is a million, and is written so once the field is left."""
     page.click(".run-tab .settings-fold summary")
     page.write('.run-tab [data-setting="events"]', "1e6", "Tab")
     shown = page.js("return document.querySelector('.run-tab [data-setting=events]').value")
     assert shown == "1,000,000"
+
+
+def test_bad_settings_are_marked(page: Browser) -> None:
+    """What is no number is marked, and nothing runs."""
+    page.click(".run-tab .settings-fold summary")
     page.write('.run-tab [data-setting="seed"]', "x")
     page.click(RUN)
     page.until("document.querySelector('.run-tab [data-setting=seed][aria-invalid]')")

@@ -24,3 +24,7 @@ export function ending_in_words({ last, end }: Course, events: number, show: (ti
   if (word === "fault") return [`A fault at ${show(time!)}: ${kind}`, "The run can't go on from there."];
   return [`Broke off after ${count(events)} events`, end === 0 ? "No time passed: events schedule each other without a delay." : `It had come to ${show(end)}. Ask for more events, or look for events that schedule each other without a delay.`];
 }
+
+const quoted = (word: string): string => (/^[\w.,:=\/-]+$/.test(word) ? word : `'${word.replace(/'/g, "'\\''")}'`);
+/** The line that gives the same answer in a shell. */
+export const shell_line = (words: readonly string[], file: string): string => `./sigma ${words.map(quoted).join(" ")} < ${quoted(file || "model.sigma")}`;

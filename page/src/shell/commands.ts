@@ -81,5 +81,5 @@ export function add_commands({ app, files, drawing, inspector, experiments, redu
     { id: "palette", title: "Find or do …", keys: "Ctrl+K", icon: "search", group: "Help", run: () => palette(app) },
     { id: "guide", title: "Your first model, in five steps", icon: "flag", group: "Help", run: () => void files.open(EMPTY, "New").then(done => { if (done) guide.open(); }) },
     { id: "help", title: "Help", keys: "?", icon: "help", group: "Help", run: open_help },
-    { id: "about", title: "About", group: "Help", run: () => open_about(app) });
+    { id: "about", title: "About", group: "Help", run: () => void open_about(app) });
 }

@@ -1,6 +1,7 @@
 // Help: the mouse, the keys, what may be written and what the graph shows; and what this page is made of.
 import { App } from "../app";
-import { at, h } from "../ui/dom";
+import { text_in } from "../engine/packed";
+import { h } from "../ui/dom";
 import { plural } from "../ui/format";
 import { legend } from "../ui/legend";
 import { commands, dialog, keys_shown } from "../ui/menu";
@@ -26,10 +27,11 @@ export function open_help(): void {
     h("section", {}, h("h3", {}, "On the graph you see"), legend())));
 }
 
-export function open_about(app: App): void {
+export async function open_about(app: App): Promise<void> {
+  const licences = await text_in("licences");
   dialog("About",
     h("p", {}, "SIGMA in a page. The program inside is proved; around it is a modeller, which decides nothing about a model: it asks the program. Nothing is sent anywhere."),
     h("p", {}, "The kit's verdict on the program: ", h("code", {}, app.data.verdict)), h("p", {}, "Version: ", h("code", {}, app.data.version)),
     h("p", {}, `It runs on ${plural(app.engine.cores, "core")} of this machine.`),
-    h("details", {}, h("summary", {}, "Licences of what is embedded"), h("pre", { className: "licences", tabIndex: 0 }, at("licences").textContent ?? "")));
+    h("details", {}, h("summary", {}, "Licences of what is embedded"), h("pre", { className: "licences", tabIndex: 0 }, licences)));
 }

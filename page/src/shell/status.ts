@@ -36,7 +36,8 @@ export class Status {
     this.foot.className = `text-state ${verdict.state}`;
     if (verdict.state === "accepted") {
       const { model } = verdict, edges = model.vertices.reduce((sum, each) => sum + each.edges.length, 0);
-      morph(this.foot, [icon("check", 13), h("span", {}, `${model.name}: ${plural(model.vertices.length, "event")}, ${plural(edges, "edge")}, ${plural(model.vars.length, "variable")}`)]);
+      const asked = tables_asked_for(doc.text, model.tables.map(each => each.name));
+      morph(this.foot, [asked.length ? h("p", { className: "hint warn", "data-key": "asked" }, `A comment asks for the table${asked.length > 1 ? "s" : ""} ${asked.join(", ")}, which the lab fills in.`) : null, icon("check", 13), h("span", {}, `${model.name}: ${plural(model.vertices.length, "event")}, ${plural(edges, "edge")}, ${plural(model.vars.length, "variable")}`)]);
     } else if (verdict.state === "refused") {
       const told = refusal_in_words(doc.text, verdict.refusal);
       this.fault = told.index;
@@ -50,3 +51,6 @@ export class Status {
     return h("button", { className: "small", onclick: () => store.edit(store.doc.text.slice(0, fix.from) + fix.text + store.doc.text.slice(fix.to), fix.title) }, fix.title);
   }
 }
+
+/** The tables that comments as `# table NAME exponential 500;` ask for and that aren't there. */
+export const tables_asked_for = (text: string, declared: readonly string[]): string[] => [...text.matchAll(/^# table (\w+) \S/gm)].map(found => found[1]).filter(name => !declared.includes(name));

@@ -72,7 +72,8 @@ class Browser(ABC):
         """Wait until an expression of the page is true, and return it."""
         end = time.time() + seconds
         while time.time() < end:
-            if found := self.js(f"return {expression}", *values):
+            code = f"const found = ({expression}); return found instanceof Node || found"
+            if found := self.js(code, *values):
                 return found
             time.sleep(0.05)
         raise AssertionError(f"never: {expression}")

@@ -1,0 +1,197 @@
+"""The paper stands still, one undo is one step, and the graph is used by keys and by the thumb."""
+
+from __future__ import annotations
+
+from typing import Any
+
+from conftest import wait_for_model
+from drive.browser import Browser
+from test_truth import ACCEPTED, RUN, event, field, text
+
+PATHS = "Object.fromEntries(sigma.app.canvas.scene.lines.map(line => [line.key, line.route.path]))"
+AT = "(({ x, y, k }) => [x, y, k])(sigma.app.canvas.view.at)"
+FOCUSED = "document.activeElement?.getAttribute('data-part')"
+
+
+def view(page: Browser) -> Any:
+    """Return where the paper is, and how large it is shown."""
+    return page.js(f"return {AT}")
+
+
+def paper(page: Browser, right: float, down: float) -> tuple[float, float]:
+    """Return a place on the paper, in parts of its width and height."""
+    box = page.js(
+        "const { x, y, width, height } = document.querySelector('.canvas').getBoundingClientRect();"
+        "return [x, y, width, height]"
+    )
+    return box[0] + box[2] * right, box[1] + box[3] * down
+
+
+def test_a_drag_spoils_no_other_line_and_is_one_step(page: Browser) -> None:
+    """Routes stay while both of their ends stay; Undo brings all of them back."""
+    before, whole = page.js(f"return [{PATHS}, JSON.stringify({PATHS})]")
+    x, y = page.middle(event("LEAVE"))
+    page.drag([(x, y), (x + 20, y + 8), (x + 48, y + 16)])
+    page.until("sigma.store.doc.text.includes('# places')")
+    page.until(ACCEPTED)
+    after = page.js(f"return {PATHS}")
+    assert {key for key in before if before[key] != after[key]} == {
+        key for key in before if "LEAVE" in key.split(" ")
+    }
+    page.click('[aria-label^="Undo"]')
+    page.until("!sigma.store.doc.text.includes('# places')")
+    page.until(f"JSON.stringify({PATHS}) === values[0]", 20, whole)
+
+
+def test_a_double_click_draws_there_and_the_paper_stands_still(page: Browser) -> None:
+    """The new event lies where one pointed; nothing else moves."""
+    place, before = paper(page, 0.15, 0.4), view(page)
+    boxes = page.js("return sigma.app.canvas.places")
+    page.click_at(place, 2)
+    page.until("document.querySelector('[data-part=\"event:EVENT1\"] .body')")
+    page.until(ACCEPTED)
+    x, y = page.middle(event("EVENT1"))
+    assert abs(x - place[0]) < 3 and abs(y - place[1]) < 3
+    assert view(page) == before
+    after = page.js("return sigma.app.canvas.places")
+    assert {name: after[name] for name in boxes} == boxes
+
+
+def test_stepping_moves_no_graph_that_is_seen_whole(page: Browser) -> None:
+    """Only what can't be seen is brought into view."""
+    page.click(RUN)
+    page.until("sigma.run.result")
+    page.until("document.querySelector('.transport-row')")
+    page.js("sigma.app.canvas.fit()")
+    before = view(page)
+    for _ in range(12):
+        page.js("sigma.run.step(1)")
+        page.until("document.querySelector('.node.lit')")
+        assert view(page) == before
+
+
+def test_numbers_of_one_moment_agree(page: Browser) -> None:
+    """The big number beside a course is that of the table, at each step."""
+    page.click(RUN)
+    page.until("sigma.run.result && document.querySelector('.course-name .now')?.textContent")
+    for _ in range(15):
+        page.js("sigma.run.step(1)")
+        shown = page.js(
+            "return [...document.querySelectorAll('.course-row:not(.of-event) .course-name')]"
+            ".filter(row => row.querySelector('.now'))"
+            ".map(row => [row.title, row.querySelector('.now').textContent])"
+        )
+        table = dict(
+            page.js(
+                "return [...document.querySelectorAll('.values:not(.pending) tr')]"
+                ".map(row => [row.children[0].textContent, row.children[1].textContent])"
+            )
+        )
+        assert shown and all(table[name] == number for name, number in shown)
+
+
+def test_the_graph_is_one_tab_stop_and_arrows_lead_along_its_edges(page: Browser) -> None:
+    """Right and left follow an edge, up and down go on, letters and Home find an event."""
+    stops = "return document.querySelectorAll('.stage-pane .graph [tabindex=\"0\"]').length"
+    assert page.js(stops) == 1
+    page.js("sigma.app.canvas.keyboard.enter()")
+    assert page.js(f"return {FOCUSED}") == "event:OPEN"
+    for key, to in (
+        ("Right", "edge:OPEN:0"),
+        ("Down", "edge:OPEN:1"),
+        ("Right", "event:CLOSE"),
+        ("Left", "edge:OPEN:1"),
+        ("Left", "event:OPEN"),
+        ("Down", "event:ARRIVE"),
+    ):
+        page.chord(key)
+        assert page.js(f"return {FOCUSED}") == to
+    page.keys("se")
+    assert page.js(f"return {FOCUSED}") == "event:SERVE"
+    assert page.js(stops) == 1
+    page.chord("Enter")
+    page.until("document.activeElement.dataset.field === 'event:SERVE/name'")
+
+
+def test_single_letters_are_keys_on_the_paper_alone(page: Browser) -> None:
+    """N on a tab makes no event; on the paper it makes one where none lies."""
+    before = text(page)
+    page.js("document.getElementById('tab-run').focus()")
+    page.keys("n")
+    assert text(page) == before
+    page.js("sigma.app.canvas.keyboard.enter()")
+    page.keys("n")
+    page.until("sigma.store.doc.text.includes('vertex EVENT1')")
+    page.until("document.querySelector('[data-part=\"event:EVENT1\"]')")
+    over = page.js(
+        "const all = [...sigma.app.canvas.scene.nodes.values()].map(node => node.box);"
+        "return all.some((a, i) => all.some((b, k) => k > i"
+        " && Math.abs(a.x - b.x) * 2 < a.width + b.width"
+        " && Math.abs(a.y - b.y) * 2 < a.height + b.height))"
+    )
+    assert not over
+
+
+def test_a_name_and_a_label_are_written_on_the_paper(page: Browser) -> None:
+    """A double click edits the word that it hits."""
+    page.click('.stage-pane [data-part="event:SERVE"] .name', 2)
+    page.until("document.querySelector('.on-paper')")
+    page.chord("Control", "a")
+    page.keys("HELP", "Enter")
+    page.until("sigma.store.doc.text.includes('vertex HELP')")
+    page.until(ACCEPTED)
+    page.click('.stage-pane .label[data-of="edge:HELP:0"] text', 2)
+    page.until("document.querySelector('.on-paper')")
+    page.chord("Control", "a")
+    page.keys("7", "Enter")
+    page.until("sigma.store.doc.text.includes('schedule LEAVE after 7;')")
+
+
+def test_the_wheel_pans_and_with_control_it_zooms(page: Browser) -> None:
+    """As in other drawing programs."""
+    wheel = (
+        "document.querySelector('.stage-pane .graph').dispatchEvent(new WheelEvent('wheel',"
+        " { deltaY: 40, ctrlKey: values[0], bubbles: true, cancelable: true,"
+        " clientX: 500, clientY: 300 }))"
+    )
+    x, y, k = view(page)
+    page.js(wheel, False)
+    assert view(page) == [x, y - 40, k]
+    page.js(wheel, True)
+    assert view(page)[2] < k
+
+
+def test_the_guide_stands_alone_on_an_empty_page(page: Browser) -> None:
+    """What the empty page offers is away while the guide is open."""
+    page.js("sigma.store.open({ ...sigma.store.doc, text: '', saved: '', file: '' }, 'New')")
+    page.until("sigma.store.verdict.state === 'empty'")
+    page.until("document.querySelector('.welcome').offsetParent !== null")
+    page.js("[...document.querySelectorAll('.welcome button')][0].click()")
+    page.until("!document.querySelector('.guide').hidden")
+    assert page.js("return getComputedStyle(document.querySelector('.welcome')).display") == "none"
+
+
+def test_the_thumb_has_44_pixels(page: Browser, address: str) -> None:
+    """Each button and field that a telephone shows is large enough, and nothing is cut off."""
+    page.size(390, 844)
+    page.open(address)
+    wait_for_model(page)
+    page.js("sigma.app.pick({ kind: 'event', name: 'SERVE' })")
+    small = (
+        "const seen = [];"
+        "for (const part of ['text', 'graph', 'form', 'dock']) {"
+        "  document.getElementById('part-' + part).click();"
+        "  for (const each of document.querySelectorAll('button, select, input, summary')) {"
+        "    const box = each.getBoundingClientRect();"
+        "    if (!box.width || each.closest('.CodeMirror')) continue;"
+        "    if (['range', 'checkbox'].includes(each.type)) continue;"
+        "    if (each.classList.contains('doc-title')) continue;"
+        "    if (Math.round(box.height) < 44 && !each.closest('.field-box'))"
+        "      seen.push([part, each.className || each.tagName, each.textContent, box.height]);"
+        "  }"
+        "  if (document.documentElement.scrollWidth > 390) seen.push([part, 'is too wide']);"
+        "}"
+        "return seen"
+    )
+    assert page.js(small) == []
+    page.size(1400, 900)
