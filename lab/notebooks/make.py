@@ -54,8 +54,22 @@ def notebook(name: str) -> Any:
     )
     for cell in made.cells:
         cell.metadata.pop("execution", None)  # the time of day
+        if cell.cell_type == "code":
+            cell.outputs = joined(cell.outputs)
     made.metadata.pop("language_info", None)
     return made
+
+
+def joined(outputs: list[Any]) -> list[Any]:
+    """The outputs with neighbouring pieces of one stream in one: how they are cut depends on the time."""
+    answer: list[Any] = []
+    for output in outputs:
+        last = answer[-1] if answer else {}
+        if output.output_type == "stream" and last.get("name") == output.name:
+            last.text += output.text
+        else:
+            answer.append(output)
+    return answer
 
 
 def shown(made: Any) -> list[list[str]]:
