@@ -13,7 +13,7 @@ from typing import Any
 
 import distributed
 import pytest
-from lab import EXAMPLES, PACKAGE, command, environment, example
+from lab import EXAMPLES, PACKAGE, command, environment, example, wait_for
 
 from sigma_lab import program
 from sigma_lab.errors import InputError
@@ -62,21 +62,25 @@ def test_lots_follow_the_clients_workers(client: Client) -> None:
 
 
 def test_a_worker_that_dies_loses_nothing(client: Client) -> None:
-    plan = Plan(600, runs=3000)
-    before = pids(client)
-    killed: list[int] = []
+    plan = Plan(600, runs=40_000 if program.has_stride() else 3000)
+    victim = pids(client)[0]
+    killed: list[float] = []
 
     def kill() -> None:
         time.sleep(1.0)
-        killed.append(before[0])
-        os.kill(before[0], signal.SIGKILL)
+        os.kill(victim, signal.SIGKILL)
+        killed.append(time.monotonic())
 
     killer = threading.Thread(target=kill)
     killer.start()
-    there = replicate(BANK, plan.change(client=client)).to_csv(with_provenance=True)
+    there = replicate(BANK, plan.change(client=client))
+    finished = time.monotonic()
     killer.join()
-    assert killed and killed[0] not in pids(client)
-    assert there == replicate(BANK, plan).to_csv(with_provenance=True)
+    assert killed[0] < finished, "the runs were made before the worker was killed"
+    assert len(there) == plan.runs
+    assert there.to_csv(with_provenance=True) == replicate(BANK, plan).to_csv(with_provenance=True)
+    client.wait_for_workers(2, timeout=60)
+    wait_for(lambda: not Path(f"/proc/{victim}").exists())
 
 
 def test_a_worker_with_another_program_is_refused(client: Client, tmp_path: Path) -> None:
