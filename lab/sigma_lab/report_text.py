@@ -139,12 +139,12 @@ class _Reader:
                 self.refuse(at, f"run 1 has {name.decode()} twice")
         count = -(-len(run) // width)
         expected = list(chain.from_iterable(repeat(b"%d" % k, width) for k in range(1, count + 1)))
-        for at, (here, wanted) in enumerate(zip(run, expected)):
+        for at, (here, wanted) in self._pairs(run, expected):
             if here != wanted:
                 if at % width and here == b"%d" % (int(wanted) + 1):
                     self.refuse(at, f"run {int(wanted)} has no row of {names[at % width].decode()}")
                 self._wrong_run(at, here, int(wanted) + (at % width > 0))
-        for at, (here, wanted) in enumerate(zip(item, names * count)):
+        for at, (here, wanted) in self._pairs(item, names * count):
             if here != wanted:
                 place = f"item {at % width + 1} of run {at // width + 1}"
                 shown = here.decode("ascii", "backslashreplace")
@@ -153,6 +153,11 @@ class _Reader:
             missing = names[len(run) % width].decode()
             self.refuse(len(run), f"run {count} has no row of {missing}")
         return tuple(name.decode() for name in names)
+
+    @staticmethod
+    def _pairs(column: Fields, wanted: Fields) -> Iterable[tuple[int, tuple[bytes, bytes]]]:
+        """The rows of a column with their fields and those that have to be there; none if all are."""
+        return () if column == wanted else enumerate(zip(column, wanted))
 
     def _wrong_run(self, row: int, here: bytes, wanted: int) -> NoReturn:
         if _WHOLE.fullmatch(here) is None:
