@@ -22,6 +22,12 @@ def _fit_words(parser: Parser) -> None:
     )
     add("--table", default="TIME", metavar="NAME", help="the table's name (TIME)")
     add(
+        "--rounding",
+        choices=("auto", "none", "nearest", "up", "down"),
+        default="auto",
+        help="how times were rounded when they were written down (auto: to the nearest unit, if it looks so)",
+    )
+    add(
         "--resamples",
         type=whole,
         default=199,
@@ -33,8 +39,17 @@ def _fit_words(parser: Parser) -> None:
 def _fit(args: argparse.Namespace, answer: Answer) -> None:
     from . import inputs
 
-    made = inputs.fit(inputs.read_times(args.file), tick=args.tick, n_resamples=args.resamples)
+    made = inputs.fit(
+        inputs.read_times(args.file),
+        tick=args.tick,
+        rounding=args.rounding,
+        n_resamples=args.resamples,
+    )
     answer.table(made.table)
+    if made.rounding != "none":
+        kind, unit = made.rounding.split()
+        way = "to the nearest" if kind == "nearest" else f"{kind} to whole"
+        say(f"the times are taken as rounded {way} {unit} ticks")
     for name, why in made.refused.items():
         answer.lines.append(f"{name}: not fitted: {why}")
     if made.autocorrelation_p < 0.05:
