@@ -11,13 +11,13 @@ from lab import TOP
 MEASURED = TOP / "lab" / "measured"
 sys.path.insert(0, str(MEASURED))
 
-import page  # noqa: E402
+import statistics_page as page  # noqa: E402
 import rows  # noqa: E402
 
 
 def test_the_page_has_what_was_measured():
     text = page.PAGE.read_text(encoding="utf-8")
-    assert page.filled(text) == text, "run lab/measured/page.py"
+    assert page.filled(text) == text, "run lab/measured/statistics_page.py"
 
 
 def test_no_decision_that_is_promised_at_5_is_above_7():

@@ -49,12 +49,22 @@ def test_plain_functions(program: Program) -> None:
     assert counts and int(counts[-1]) > 0, output[-SHOWN:]
 
 
+def page_to_try() -> Path:
+    """Answer the page of dist/ if it is of the page's sources as they are, else make one."""
+    built = TOP / "dist/BUILT"
+    sums = [line for line in succeeds(TOP / "release", "--sums").splitlines() if "page" in line]
+    if built.is_file() and sums and sums[0] in built.read_text().splitlines():
+        return TOP / "dist/sigma.html"
+    succeeds(PAGE / "make")
+    return PAGE / "out/sigma.html"
+
+
 @pytest.mark.browsers
 def test_in_browsers(program: Program) -> None:
-    """The page is made, is used in browsers by mouse and keys, and answers as the program."""
-    succeeds(PAGE / "make")
-    succeeds(PAGE / "test", "browsers", program=program)
-    succeeds(PAGE / "test", "faithful", program=program)
+    """The page is used in browsers by mouse and keys, and answers as the program."""
+    page = page_to_try()
+    succeeds(PAGE / "test", "browsers", "--page", page, program=program)
+    succeeds(PAGE / "test", "faithful", "--page", page, program=program)
 
 
 def test_the_c_of_the_module(needs: Needs) -> None:

@@ -79,7 +79,8 @@ class Browser(ABC):
         raise AssertionError(f"never: {expression}")
 
     def middle(self, css: str) -> Place:
-        """Return the middle of an element, which is brought into view."""
+        """Return the middle of an element, which is waited for and brought into view."""
+        self.until("document.querySelector(values[0])", 20, css)
         found = self.js(
             "const found = document.querySelector(values[0]); if (!found) return null;"
             "found.scrollIntoView({ block: 'nearest', inline: 'nearest' });"

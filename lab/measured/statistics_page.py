@@ -1,6 +1,6 @@
 """Writes the tables of docs/use/statistics.md from what the other scripts measured.
 
-    python3 lab/measured/page.py
+    python3 lab/measured/statistics_page.py
 """
 
 from __future__ import annotations
