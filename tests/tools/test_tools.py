@@ -13,7 +13,7 @@ from support.program import LONGEST, Program
 TRIALS = sorted((Path(__file__).parent / "trials").iterdir())
 
 
-@pytest.mark.parametrize("trial", TRIALS, ids=lambda path: path.name)
+@pytest.mark.parametrize("trial", TRIALS, ids=[trial.name for trial in TRIALS])
 def test_trials(program: Program, trial: Path) -> None:
     """Each trial of a file holds, and there are some."""
     ran = subprocess.run(
