@@ -1,7 +1,8 @@
 // Estimates against SciPy and statsmodels: each expected value was computed by them.
 import test from "node:test";
 import assert from "node:assert/strict";
-import { beta_part, holm, log_gamma, moving, p_value, paired, quantile, share, student, summary } from "../src/experiments/statistics";
+import { beta_part, log_gamma, student } from "../src/experiments/special";
+import { holm, moving, p_value, paired, quantile, share, summary } from "../src/experiments/statistics";
 import { since } from "../src/engine/report";
 import type { Report } from "../src/engine/report";
 
@@ -20,8 +21,8 @@ test("the incomplete beta function and the logarithm of gamma, as scipy.special 
   near(log_gamma(1234.5), 7550.550901077894);
 });
 
-test("a mean with its interval, and a paired difference with its p-value", () => {
-  const { mean, error, from, to } = summary(VALUES);
+test("Student's interval, and a paired difference with its p-value", () => {
+  const { mean, error, from, to } = paired(VALUES.map(() => 0), VALUES);
   for (const [found, wanted] of [[mean, 4.125], [error, 0.940174755792013], [from, 1.9018399722665191], [to, 6.348160027733481]]) near(found, wanted);
   near(p_value(paired(OTHERS, VALUES)), 0.3589848040510111);
 });

@@ -103,6 +103,9 @@ export class Asking {
   }
 }
 
+/** The mean of a column over the runs: all columns but the average are whole numbers. */
+export const estimate = (values: readonly number[], column: Column): Summary => summary(values, { whole: column !== "average" });
+
 const holds = (value: number, { relation, limit }: Target): boolean => (relation === "most" ? value <= limit : value >= limit);
 
 /** Whether a target is met, by the 95 % interval: not known where the interval holds the limit. */
@@ -113,6 +116,6 @@ export function met_by(report: Report, target: Target): Met {
     const { from, to } = share(values.filter(value => holds(value, target)).length, values.length), wanted = target.share / 100;
     return from >= wanted ? "yes" : to < wanted ? "no" : "unknown";
   }
-  const made: Summary = summary(values), [from, to] = made.error > 0 ? [made.from, made.to] : [made.mean, made.mean];
+  const made = estimate(values, target.column), [from, to] = made.error > 0 ? [made.from, made.to] : [made.mean, made.mean];
   return holds(from, target) && holds(to, target) ? "yes" : !holds(from, target) && !holds(to, target) ? "no" : "unknown";
 }

@@ -5,15 +5,18 @@ import { download, h } from "../ui/dom";
 import { count, fixed, plural, short } from "../ui/format";
 import { icon } from "../ui/icons";
 import { CHART_RULES, picture_style, png_of, save_blob } from "../shell/pictures";
-import { Course, met_by, Search, Sweep, Target } from "./asking";
+import { Course, estimate, met_by, Search, Sweep, Target } from "./asking";
 import { estimates_as_csv } from "./saving";
-import { Bounds, digits_of, holm, p_value, paired, quantile, share, Summary, summary } from "./statistics";
+import { Bounds, digits_of, holm, p_value, paired, quantile, share, Summary } from "./statistics";
 import { welch_chart } from "./welch_chart";
 
 export const COLUMNS: readonly (readonly [Column, string])[] = [["average", "time average"], ["greatest", "greatest value"], ["least", "least value"], ["last", "last value"], ["count", "number of times"]];
 export const title_of = (column: Column): string => COLUMNS.find(([each]) => each === column)![1];
 export interface Named { name: string; report: Report; k: number }
 export interface View { item: string; column: Column; limit: string; relation: "most" | "least" }
+
+/** The methods of intervals in words. */
+const INTERVALS: Readonly<Record<string, string>> = { "Student's t": "Student’s t", Willink: "Student’s t, moved by the skewness of the values (Willink)", "Clopper and Pearson": "exact, for values that are 0 or 1 (Clopper and Pearson)" };
 
 /** The columns that an item has in all reports. */
 export function columns_of(reports: readonly Report[], item: string): Column[] {
@@ -39,6 +42,12 @@ function table_of(rows: readonly (Interval & { p?: number })[]): HTMLElement {
   const level = rows[0] ? `${short(rows[0].summary.level * 100)} %` : "95 %";
   return h("div", { className: "table-box" }, h("table", { className: "numbers" }, h("thead", {}, h("tr", {}, ...["", "runs", "mean", `${level} from`, "to", "least", "greatest", ...(has_p ? ["p (Holm)"] : [])].map(each => h("th", { scope: "col" }, each)))),
     h("tbody", {}, ...rows.map(({ label, summary: each, p }) => h("tr", {}, h("th", { scope: "row" }, label), h("td", {}, count(each.runs)), ...[each.mean, each.from, each.to].map(value => h("td", {}, fixed(value, digits))), ...[each.least, each.greatest].map(value => h("td", {}, fixed(value, ends))), has_p ? h("td", {}, p === undefined || Number.isNaN(p) ? "–" : p < 0.0001 ? "< 0.0001" : fixed(p, 4)) : null)))));
+}
+
+/** How intervals were made, and what makes them hold less often than they say. */
+function made_by(rows: readonly Interval[]): HTMLElement[] {
+  const methods = [...new Set(rows.map(({ summary: each }) => each.method))].filter(each => each !== "one run" && each !== "equal values"), warned = rows.filter(({ summary: each }) => each.warning);
+  return [...(methods.length ? [h("p", { className: "hint" }, `Intervals: ${methods.map(each => INTERVALS[each]).join("; ")}.`)] : []), ...warned.map(({ label, summary: each }) => h("p", { className: "hint warn" }, icon("warn", 13), ` ${rows.length > 1 ? `${label}: ${each.warning[0].toLowerCase()}${each.warning.slice(1)}` : each.warning}`))];
 }
 
 function verdict(item: string, base: string, other: string, { from, to, error, mean, runs }: Summary): HTMLElement {
@@ -74,7 +83,7 @@ function broken(named: readonly Named[]): HTMLElement[] {
 export function compared(named: readonly Named[], view: View, changed: (part: Partial<View>) => void, run_seed: (seed: string) => void): HTMLElement[] {
   const all = named.map(each => ({ ...each, values: values_of(each.report, view.item, view.column) })).filter((each): each is Named & { values: number[] } => each.values !== null && each.values.length > 0);
   if (!all.length) return [h("p", { className: "hint" }, "No design watches this.")];
-  const rows = all.map(({ name, k, values }): Interval => ({ label: name, summary: summary(values), colour: colour(k) })), title = `${view.item}, ${title_of(view.column)}`;
+  const rows = all.map(({ name, k, values }): Interval => ({ label: name, summary: estimate(values, view.column), colour: colour(k) })), title = `${view.item}, ${title_of(view.column)}`;
   // Intervals of several comparisons hold all together (Bonferroni); p-values are adjusted by Holm.
   const pairs = all.slice(1), level = 1 - 0.05 / Math.max(1, pairs.length), made = pairs.map(({ values }) => paired(all[0].values, values, level)), p = holm(made.map(p_value));
   const differences = pairs.map(({ name, k }, i) => ({ label: (name + all[0].name).length < 18 ? `${name} − ${all[0].name}` : `${name} − base`, summary: made[i], colour: colour(k), strong: true, p: p[i] }));
@@ -82,16 +91,16 @@ export function compared(named: readonly Named[], view: View, changed: (part: Pa
   for (const each of warnings) { const button = each.querySelector("button")!; button.onclick = () => run_seed(button.dataset.seed!); }
   const runs = Math.min(...all.map(({ values }) => values.length));
   return [...warnings,
-    figure(title, `mean of ${count(runs)} runs with its 95 % interval`, interval_chart(rows, false, title), table_of(rows), h("p", { className: "panel-foot" }, h("button", { className: "link", onclick: () => download("estimates.csv", estimates_as_csv(title, [...rows, ...differences]), "text/csv") }, "Save these as CSV"))),
-    ...(differences.length ? [figure("Differences", `run by run, on the same seeds${differences.length > 1 ? `; ${differences.length} comparisons that hold together at 95 %` : ""}`, interval_chart(differences, true, `difference of the ${title_of(view.column)}`), table_of(differences), ...differences.map((each, i) => verdict(view.item, all[0].name, pairs[i].name, each.summary)))] : []),
+    figure(title, `mean of ${count(runs)} runs with its 95 % interval`, interval_chart(rows, false, title), table_of(rows), ...made_by(rows), h("p", { className: "panel-foot" }, h("button", { className: "link", onclick: () => download("estimates.csv", estimates_as_csv(title, [...rows, ...differences]), "text/csv") }, "Save these as CSV"))),
+    ...(differences.length ? [figure("Differences", `run by run, on the same seeds${differences.length > 1 ? `; ${differences.length} comparisons that hold together at 95 %` : ""}`, interval_chart(differences, true, `difference of the ${title_of(view.column)}`), table_of(differences), ...made_by(differences), ...differences.map((each, i) => verdict(view.item, all[0].name, pairs[i].name, each.summary)))] : []),
     levels(all.map(({ name, values }) => ({ label: name, values })), view, changed),
     figure("Spread over the runs", "", histogram(all.map(({ name, values, k }) => ({ label: name, values, colour: colour(k) })), title))];
 }
 
 export function swept(sweep: Sweep, view: View): HTMLElement[] {
-  const shown = sweep.points.flatMap(({ at, report }) => { const values = values_of(report, view.item, view.column); return values ? [{ at, summary: summary(values) }] : []; }), title = `${view.item}, ${title_of(view.column)}`;
+  const shown = sweep.points.flatMap(({ at, report }) => { const values = values_of(report, view.item, view.column); return values ? [{ at, summary: estimate(values, view.column) }] : []; }), title = `${view.item}, ${title_of(view.column)}`;
   const rows = shown.map(({ at, summary: each }) => ({ label: `${sweep.variable} = ${count(at)}`, summary: each, colour: colour(0) }));
-  return [figure(title, `for each first value of ${sweep.variable}`, sweep_chart(shown, title, `first value of ${sweep.variable}`, sweep.of), table_of(rows), h("p", { className: "panel-foot" }, h("button", { className: "link", onclick: () => download("sweep.csv", estimates_as_csv(title, rows), "text/csv") }, "Save these as CSV"))),
+  return [figure(title, `for each first value of ${sweep.variable}`, sweep_chart(shown, title, `first value of ${sweep.variable}`, sweep.of), table_of(rows), ...made_by(rows), h("p", { className: "panel-foot" }, h("button", { className: "link", onclick: () => download("sweep.csv", estimates_as_csv(title, rows), "text/csv") }, "Save these as CSV"))),
     ...(sweep.widened ? [h("p", { className: "dim foot" }, `The range of ${sweep.variable} was widened for the sweep.`)] : [])];
 }
 
@@ -99,7 +108,7 @@ const asked = ({ item, column, of, relation, limit, share: part }: Target): stri
 
 export function searched({ variable, target, tried, found, widened }: Search): HTMLElement[] {
   const sorted = [...tried].sort((a, b) => a.at - b.at), word = { yes: "is met", no: "isn't met", unknown: "can't be told" };
-  const value = (report: Report) => { const values = values_of(report, target.item, target.column) ?? []; if (target.of === "mean") { const each = summary(values); return `${fixed(each.mean, digits_of(each.error))} (${fixed(each.from, digits_of(each.error))} to ${fixed(each.to, digits_of(each.error))})`; } const part = share(values.filter(each => (target.relation === "most" ? each <= target.limit : each >= target.limit)).length, values.length); return `${fixed(part.value * 100, 1)} % (${fixed(part.from * 100, 1)} to ${fixed(part.to * 100, 1)})`; };
+  const value = (report: Report) => { const values = values_of(report, target.item, target.column) ?? []; if (target.of === "mean") { const each = estimate(values, target.column); return `${fixed(each.mean, digits_of(each.error))} (${fixed(each.from, digits_of(each.error))} to ${fixed(each.to, digits_of(each.error))})`; } const part = share(values.filter(each => (target.relation === "most" ? each <= target.limit : each >= target.limit)).length, values.length); return `${fixed(part.value * 100, 1)} % (${fixed(part.from * 100, 1)} to ${fixed(part.to * 100, 1)})`; };
   return [h("section", { className: "panel" }, h("h3", {}, found === null ? "No value meets the target" : `${variable} = ${count(found)}`, h("small", {}, found === null ? "" : " is the least value that meets the target")),
     h("p", {}, `Asked was that ${asked(target)}, by the whole 95 % interval. The search halves, so it is right if a greater ${variable} never does worse.`),
     h("table", { className: "numbers" }, h("thead", {}, h("tr", {}, ...[variable, target.of === "mean" ? "mean (95 %)" : "share of runs (95 %)", "the target"].map(each => h("th", { scope: "col" }, each)))), h("tbody", {}, ...sorted.map(({ at, report, met }) => h("tr", { className: at === found ? "chosen" : "" }, h("th", { scope: "row" }, count(at)), h("td", {}, value(report)), h("td", {}, word[met_by(report, target) === met ? met : "unknown"])))))),

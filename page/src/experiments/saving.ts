@@ -18,6 +18,6 @@ export function runs_as_csv(reports: readonly { name: string; report: Report }[]
 
 export function estimates_as_csv(title: string, rows: readonly { label: string; summary: Summary; p?: number }[]): string {
   const shown = (value: number) => (Number.isFinite(value) ? value : "");
-  return csv_of([["of", title], ["", "runs", "mean", "from", "to", "level", "standard error", "least", "greatest", "p"],
-    ...rows.map(({ label, summary: each, p }) => [label, each.runs, each.mean, shown(each.from), shown(each.to), each.level, shown(each.error), each.least, each.greatest, p === undefined ? "" : shown(p)])]);
+  return csv_of([["of", title], ["", "runs", "mean", "from", "to", "level", "standard error", "least", "greatest", "p", "interval", "warning"],
+    ...rows.map(({ label, summary: each, p }) => [label, each.runs, each.mean, shown(each.from), shown(each.to), each.level, shown(each.error), each.least, each.greatest, p === undefined ? "" : shown(p), each.method, each.warning])]);
 }

@@ -1,5 +1,5 @@
 // Tables of distributions in whole ticks: values with weights, for models whose delays aren't uniform. Plain functions.
-import { log_gamma } from "../experiments/statistics";
+import { log_gamma } from "../experiments/special";
 
 export interface Row { value: number; weight: number }
 export type Kind = "exponential" | "triangular" | "normal" | "lognormal" | "erlang" | "data";
