@@ -1,0 +1,11 @@
+pub mod Declared
+pub mod Alike
+pub mod LooksApart
+pub mod Folded
+pub mod MappedParts
+pub mod Rewritten
+pub mod RewrittenInside
+pub mod PlainerForms
+pub mod TablesKept
+pub mod Reordered
+pub mod Nameless
