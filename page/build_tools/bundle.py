@@ -27,6 +27,7 @@ class BuildError(Exception):
 class Bundle:
     """The scripts and the style of the page, and the files of packages that they were made of."""
 
+    opening: str
     page: str
     worker: str
     layout: str
@@ -77,9 +78,10 @@ def _style() -> str:
 
 def bundle() -> Bundle:
     """Return the scripts and the style as they stand in the page."""
+    opening, _ = _script("src/opening.ts")
     page, in_page = _script("src/main.ts")
     worker, in_worker = _script("src/engine/worker.ts")
     layout, in_layout = _script("src/graph/layout_worker.ts")
     styles = [NODE_MODULES / name for name in STYLES]
     foreign = sorted({*in_page, *in_worker, *in_layout, *styles})
-    return Bundle(page, worker, layout, _style(), tuple(foreign))
+    return Bundle(opening, page, worker, layout, _style(), tuple(foreign))

@@ -57,10 +57,11 @@ def page_of(parts: Bundle, module: bytes, data: dict[str, object], texts: str, n
     native
         Where the native program answers, or nothing.
     """
-    script = _safe(parts.page)
+    opening = _safe(parts.opening)
+    scripts = f"{_digest(opening)} {_digest(parts.page)}"
     connect = f" connect-src {native};" if native else ""
     policy = (
-        f"default-src 'none'; script-src {_digest(script)} 'wasm-unsafe-eval'; worker-src blob:;"
+        f"default-src 'none'; script-src {scripts} 'wasm-unsafe-eval'; worker-src blob:;"
         f"{connect} style-src {_digest(parts.style)}; img-src data: blob:; base-uri 'none';"
         " form-action 'none'"
     )
@@ -69,13 +70,16 @@ def page_of(parts: Bundle, module: bytes, data: dict[str, object], texts: str, n
 <meta name="viewport" content="width=device-width,initial-scale=1">
 <meta http-equiv="Content-Security-Policy" content="{policy}">
 <style>{parts.style}</style></head><body>
+<div class="opening"><b>SIGMA</b><p>Opening …</p></div>
+<noscript>SIGMA is a program, so it needs JavaScript.</noscript>
+<script>{opening}</script>
+<script id="page" type="text/plain">{_packed(parts.page.encode())}</script>
 <script id="licences" type="text/plain">{_packed(licences(parts.foreign).encode())}</script>
 <script id="wasm" type="text/plain">{_packed(module) if module else ""}</script>
 <script id="worker" type="text/plain">{_packed(parts.worker.encode())}</script>
 <script id="layout" type="text/plain">{_packed(parts.layout.encode())}</script>
 <script id="examples" type="text/plain">{_packed(texts.encode())}</script>
 <script id="data" type="application/json">{_as_json(data)}</script>
-<script>{script}</script>
 </body></html>
 """
 

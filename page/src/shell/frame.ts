@@ -63,6 +63,7 @@ export function build_frame(app: App, { head, text, text_foot, stage, tab_bar, t
   const form_rail = h("nav", { className: "rail form-rail", "aria-label": "Form" }, h("button", { title: "Show the form", onclick: () => { show_part(app, "form"); form.querySelector("input")?.focus(); } }, icon("form"), h("span", {}, "Form")));
   const close = h("button", { className: "icon-button", title: "Hide the form", "aria-label": "Hide the form", onclick: () => { show_part(app, "graph"); form_rail.querySelector("button")!.focus(); } }, icon("right", 14));
   const skip = h("a", { className: "skip", href: "#graph", onclick: (event: Event) => { event.preventDefault(); show_part(app, "graph", false); app.canvas.keyboard.enter(); } }, "To the graph");
+  document.querySelector(".opening")!.remove();
   document.body.append(skip, head,
     h("div", { className: "work" }, h("nav", { className: "rail", "aria-label": "Text" }, rail_button),
       h("section", { className: "text-pane", "aria-label": "Text" }, h("header", { className: "pane-head" }, h("b", {}, "Text"), hide), text, text_foot), split(app, "left"),
