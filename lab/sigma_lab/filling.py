@@ -70,9 +70,10 @@ def fill(text: str, folder: Path | str = ".", rows: int = 200) -> Filled:
     folder = Path(folder)
     tables: list[Table] = []
     notes: list[str] = []
-    for found in list(_TABLE.finditer(text)):
+    given = text
+    for found in _TABLE.finditer(given):
         name, words = found.groups()
-        line = text.count("\n", 0, found.start()) + 1
+        line = given.count("\n", 0, found.start()) + 1
         try:
             table = discretize(Distribution.parse(words, folder), rows, name)
         except LabError as error:
