@@ -24,7 +24,7 @@ def begins_with(path: Path, *starts: bytes) -> bool:
 
 
 SHELL = [path for path in kept_files() if begins_with(path, b"#!/bin/sh", b"# shellcheck shell=")]
-MODULES = kept_files("tests/*.py", "lab/*.py")
+MODULES = kept_files("tests/*.py", "lab/*.py", "docs/*.py")
 
 
 def finds_nothing(*words: str | Path, **environment: str) -> None:
@@ -48,7 +48,7 @@ def test_shell(script: Path, needs: Callable[[str], str]) -> None:
     finds_nothing(needs("shellcheck"), "-x", "-s", "sh", "-f", "gcc", script)
 
 
-@pytest.mark.parametrize("folder", ["tests", "lab"])
+@pytest.mark.parametrize("folder", ["tests", "lab", "docs"])
 def test_python_is_formatted(folder: str) -> None:
     """Black would leave each module as it is."""
     finds_nothing(PYTHON, "-m", "black", "--check", "-q", "-l", "100", TOP / folder)
@@ -67,6 +67,12 @@ def test_types_of_the_lab(tmp_path: Path) -> None:
     """Mypy finds nothing in the lab."""
     config = ("--config-file", TOP / "lab/pyproject.toml", "--cache-dir", tmp_path)
     finds_nothing(PYTHON, "-m", "mypy", "--strict", *config, TOP / "lab/sigma_lab")
+
+
+def test_types_of_the_writer_of_pages(tmp_path: Path) -> None:
+    """Mypy finds nothing in what writes parts of pages."""
+    config = ("--config-file", TESTS / "pyproject.toml", "--cache-dir", tmp_path)
+    finds_nothing(PYTHON, "-m", "mypy", *config, TOP / "docs/writing")
 
 
 @pytest.mark.parametrize("module", MODULES, ids=lambda path: str(path.relative_to(TOP)))

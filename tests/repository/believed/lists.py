@@ -4,7 +4,7 @@ from __future__ import annotations
 
 import re
 from collections import Counter
-from collections.abc import Mapping
+from collections.abc import Collection, Mapping
 from dataclasses import dataclass, field
 
 from repository.believed.reach import Reach
@@ -14,7 +14,9 @@ from support.places import TOP, kept_files
 PROMISES = "crates/sigma_top/specs/Promises.antt"
 
 # Modules that no page has to list if nothing of them is reached.
-UNLISTED = re.compile(r"^worked_|_tests/|^text_laws|^static_laws|/specs/Inner")
+UNLISTED = re.compile(
+    r"^worked_|_tests/|^text_laws|^static_laws/specs/(?!FitsVersion)|/specs/Inner"
+)
 
 
 @dataclass
@@ -38,6 +40,11 @@ class Question:
     heading: str = "the theorem"
     calls: str = "sigma|program"
     promise: str = ""
+
+    @property
+    def is_all(self) -> bool:
+        """Answer whether all clauses of the program are meant."""
+        return "program" in self.calls
 
 
 def read_page(text: str, heading: str) -> Lists:
@@ -112,6 +119,57 @@ def shown(believed: int, whole: int) -> str:
     return str(whole) if believed == whole else f"{believed} of {whole}"
 
 
+@dataclass
+class Right:
+    """What the clauses reach: modules with their lines, and names of the code by their files."""
+
+    modules: dict[tuple[str, str], str] = field(default_factory=dict)
+    code: dict[str, set[str]] = field(default_factory=dict)
+    together: int = 0
+    of_code: int = 0
+    complaints: list[str] = field(default_factory=list)
+
+
+def right_lists(
+    files: Mapping[str, str], question: Question, listed: Collection[tuple[str, str]] = ()
+) -> Right:
+    """Find what the clauses reach. Of what they don't reach, `listed` names modules to count too."""
+    sources = Sources(question.calls)
+    for path in sorted(files):
+        sources.read(path, files[path])
+    if question.promise:
+        narrow_to_promise(sources, question.promise)
+    reach = Reach(sources)
+    right = Right()
+    right.complaints = list(sources.complaints)
+    if not question.promise:
+        right.complaints += sources.unsure + reach.doubts()
+
+    lines: Counter[str] = Counter()
+    reached: Counter[str] = Counter()
+    for block in sources.blocks:
+        is_reached = reach.has(block)
+        if block.file.endswith(".antt"):
+            lines[block.file] += block.lines
+            reached[block.file] += block.lines if is_reached else 0
+        elif is_reached:
+            right.of_code += block.lines
+            if block.kind in ("type", "trait"):
+                right.code.setdefault(block.file, set()).add(block.name)
+
+    for path in lines:
+        name = path.removeprefix("crates/").removesuffix(".antt")
+        whole = lines[path] + sources.heads[path]
+        believed = reached[path] + sources.heads[path] if reached[path] else 0
+        right.together += believed
+        right.modules["believed", name] = shown(believed, whole)
+        if question.is_all and (
+            believed or not UNLISTED.search(name) or ("besides", name) in listed
+        ):
+            right.modules["besides", name] = shown(whole - believed, whole)
+    return right
+
+
 def differences(
     page_name: str, page: str, files: Mapping[str, str], question: Question
 ) -> tuple[list[str], int]:
@@ -122,51 +180,21 @@ def differences(
     tuple of list of str and int
         What differs or can't be read, and how many lines are reached together.
     """
-    sources = Sources(question.calls)
-    for path in sorted(files):
-        sources.read(path, files[path])
-    if question.promise:
-        narrow_to_promise(sources, question.promise)
-    reach = Reach(sources)
     lists = read_page(page, question.heading)
-    found = sources.complaints + ([] if question.promise else sources.unsure + reach.doubts())
-
-    lines: Counter[str] = Counter()
-    reached: Counter[str] = Counter()
-    code: set[str] = set()
-    of_code = 0
-    for block in sources.blocks:
-        is_reached = reach.has(block)
-        if block.file.endswith(".antt"):
-            lines[block.file] += block.lines
-            reached[block.file] += block.lines if is_reached else 0
-        elif is_reached:
-            of_code += block.lines
-            if block.kind in ("type", "trait"):
-                code |= {block.file, block.name}
-
-    right: dict[tuple[str, str], str] = {}
-    together = 0
-    is_all = "program" in question.calls
-    for path in lines:
-        name = path.removeprefix("crates/").removesuffix(".antt")
-        whole = lines[path] + sources.heads[path]
-        believed = reached[path] + sources.heads[path] if reached[path] else 0
-        together += believed
-        right["believed", name] = shown(believed, whole)
-        if is_all and (believed or not UNLISTED.search(name) or ("besides", name) in lists.modules):
-            right["besides", name] = shown(whole - believed, whole)
+    right = right_lists(files, question, lists.modules)
+    found = list(right.complaints)
     ends = {"believed": "to believe", "besides": "for single crates"}
-    for key in sorted({*right, *lists.modules}):
-        has, wants = lists.modules.get(key, ""), right.get(key, "")
+    for key in sorted({*right.modules, *lists.modules}):
+        has, wants = lists.modules.get(key, ""), right.modules.get(key, "")
         if has != wants:
             found.append(f'{page_name} has "{has}" for "{wants}" lines of {key[1]} {ends[key[0]]}')
-    if is_all:
+    code = {name for path, names in right.code.items() for name in (path, *names)}
+    if question.is_all:
         found += [f"{page_name} doesn't list {n} of the code" for n in sorted(code - lists.code)]
     no_clause = "of the code, which no clause reaches"
     found += [f"{page_name} lists {name} {no_clause}" for name in sorted(lists.code - code)]
-    if lists.together != f"{together:,}":
-        found.append(f"{page_name} has {lists.together} lines together for {together:,}")
-    if is_all and lists.of_code != f"{of_code}":
-        found.append(f"{page_name} has {lists.of_code} lines of the code for {of_code}")
-    return found, together
+    if lists.together != f"{right.together:,}":
+        found.append(f"{page_name} has {lists.together} lines together for {right.together:,}")
+    if question.is_all and lists.of_code != f"{right.of_code}":
+        found.append(f"{page_name} has {lists.of_code} lines of the code for {right.of_code}")
+    return found, right.together

@@ -1,0 +1,92 @@
+"""The list of what has to be believed: the definitions, module by module, and the types of the code that they name."""
+
+from __future__ import annotations
+
+import re
+from functools import cache
+from pathlib import Path
+
+from repository.believed.lists import Question, Right, repository_sources, right_lists
+from support.places import TOP
+from writing.crates import crates
+from writing.parts import code, lowered, table, topic
+
+MODULE = re.compile(r"^pub mod (\w+)", re.M)
+
+
+@cache
+def right() -> Right:
+    """Find once what the clauses reach."""
+    return right_lists(repository_sources(), Question())
+
+
+def modules_of(folder: str, name: str) -> list[str]:
+    """List the modules that a file of modules names, with those below them, in its order."""
+    path = TOP / "crates" / folder / f"{name}.antt"
+    if not path.exists():
+        return []
+    below = folder if name == "Lib" else f"{folder}/{name}"
+    found: list[str] = []
+    for each in MODULE.findall(path.read_text()):
+        found += [f"{below}/{each}", *modules_of(below, each)]
+    return found
+
+
+@cache
+def reading_order() -> dict[str, int]:
+    """Number the modules: the crates in their order, and in each the modules in the order of `Lib`."""
+    names = [name for crate in crates() for name in modules_of(f"{crate.name}/specs", "Lib")]
+    return {name: place for place, name in enumerate(names)}
+
+
+def about(module: str) -> str:
+    """Read the first sentence of the comment that a module begins with."""
+    lines: list[str] = []
+    for line in (TOP / "crates" / f"{module}.antt").read_text().splitlines():
+        if not line.startswith("--"):
+            break
+        lines.append(line.removeprefix("--").strip())
+    return lowered(topic(" ".join(lines))).replace("|", r"\|")
+
+
+def modules(which: str) -> list[str]:
+    """List the modules of one of the two lists, in reading order."""
+    order = reading_order()
+    names = [name for (kind, name), lines in right().modules.items() if kind == which and lines]
+    return sorted(names, key=lambda name: (order.get(name, len(order)), name))
+
+
+def believed(_page: Path) -> str:
+    """Write the modules that the clauses of the program reach."""
+    lines = right().modules
+    rows = [(code(name), lines["believed", name], about(name)) for name in modules("believed")]
+    together = f"Together {right().together:,} lines."
+    return f"{table(('module', 'lines', 'subject'), rows)}\n\n{together}"
+
+
+def besides(_page: Path) -> str:
+    """Write the further modules that single crates name, a row for each folder."""
+    rows: dict[str, list[str]] = {}
+    for name in modules("besides"):
+        rows.setdefault(name.rpartition("/")[0], []).append(name)
+    lines = right().modules
+    cells = [
+        (
+            ", ".join(
+                code(name if name == names[0] else name.rpartition("/")[2]) for name in names
+            ),
+            ", ".join(lines["besides", name] for name in names),
+        )
+        for names in rows.values()
+    ]
+    return table(("modules", "lines"), cells)
+
+
+def of_code(_page: Path) -> str:
+    """Write the types, traits and constants of the code that the definitions name."""
+    rows = [
+        (code(path.removeprefix("crates/")), ", ".join(map(code, sorted(names))))
+        for path, names in sorted(right().code.items())
+    ]
+    total = f"Of the code {right().of_code} lines are reached"
+    return f"{table(('source file', 'constants and types'), rows)}\n\n{total}."
