@@ -127,7 +127,7 @@ def _graph_words(parser: Parser) -> None:
 def _graph(args: argparse.Namespace, answer: Answer) -> None:
     from . import graph
 
-    model = _model(args)
+    model = _model(args).without_certificate()
     if args.output:
         graph.save(model, args.output)
     else:

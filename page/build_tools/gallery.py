@@ -4,27 +4,25 @@ from __future__ import annotations
 
 import hashlib
 import json
-import re
 import subprocess
+import sys
 from pathlib import Path
 
 from bundle import PAGE, BuildError
 
 ROOT = PAGE.parent
-ASKS_FOR_TABLES = re.compile(r"^# table |^ *# values ", re.MULTILINE)
+sys.path.insert(0, str(ROOT / "lab"))
+
+from sigma_lab.errors import LabError  # noqa: E402
+from sigma_lab.filling import fill  # noqa: E402
 
 
 def _filled(file: Path) -> str:
     """Return an example; tables that its comments ask for are filled in, as the page can't read files."""
-    text = file.read_text(encoding="utf-8")
-    if not ASKS_FOR_TABLES.search(text):
-        return text
-    done = subprocess.run(
-        [ROOT / "tools" / "tables", "--fill", file], capture_output=True, text=True, check=False
-    )
-    if done.returncode:
-        raise BuildError(f"the tables of {file.name} can't be filled in: {done.stderr.strip()}")
-    return done.stdout
+    try:
+        return fill(file.read_text(encoding="utf-8"), file.parent).text
+    except LabError as error:
+        raise BuildError(f"the tables of {file.name} can't be filled in: {error}") from None
 
 
 def examples(out: Path) -> dict[str, str]:
@@ -38,7 +36,7 @@ def examples(out: Path) -> dict[str, str]:
     folder = ROOT / "examples"
     sources = sorted(
         file
-        for pattern in ("examples/*.sigma", "examples/*.csv", "tools/tables", "tools/lib/*")
+        for pattern in ("examples/*.sigma", "examples/*.csv", "lab/sigma_lab/*.py")
         for file in ROOT.glob(pattern)
         if file.is_file()
     )
