@@ -1,4 +1,4 @@
-//! Tests of what no clause says of the lowest crates, of the printer and of the conflicts, through their public calls.
+//! Tests of what no clause says of the lowest crates, of the printer, of uses and of the conflicts, through their public calls.
 #![tactic(auto)]
 
 #[cfg(test)]
@@ -13,3 +13,5 @@ mod memory;
 mod printing;
 #[cfg(test)]
 mod steps;
+#[cfg(test)]
+mod uses;
