@@ -5,8 +5,8 @@ use Rattle.model_core.specs.EventGraph.{EventGraph}
 use Rattle.model_core.specs.Run.Machine.{Look, finished}
 use Rattle.model_core.specs.Run.History.{look}
 use Rattle.model_core.specs.Run.Same.{Begins, SameLooks, Same}
-use Rattle.alike_laws.specs.Declared.{Declared}
-use Rattle.alike_laws.specs.Alike.{ShownBy, AlikeLooks, Alike}
+use Rattle.alike_laws.specs.DeclaredAlike.{DeclaredAlike}
+use Rattle.alike_laws.specs.AreAlike.{ShownBy, AlikeLooks, AreAlike}
 use Rattle.alike_laws.proofs.AllowedStarts.{same_allowed}
 
 -- ---- looks
@@ -46,10 +46,10 @@ looks-alike a b same = record {
 
 -- ---- declarations
 
-pub declared_refl : (g : EventGraph) → Declared g g
+pub declared_refl : (g : EventGraph) → DeclaredAlike g g
 declared_refl g = record { watched = refl; shapes = refl; started = refl; kinds = refl }
 
-pub declared_sym : (g h : EventGraph) → Declared g h → Declared h g
+pub declared_sym : (g h : EventGraph) → DeclaredAlike g h → DeclaredAlike h g
 declared_sym g h gh = record {
   watched = sym gh.watched;
   shapes = sym gh.shapes;
@@ -57,7 +57,7 @@ declared_sym g h gh = record {
   kinds = sym gh.kinds;
 }
 
-pub declared_trans : (g h k : EventGraph) → Declared g h → Declared h k → Declared g k
+pub declared_trans : (g h k : EventGraph) → DeclaredAlike g h → DeclaredAlike h k → DeclaredAlike g k
 declared_trans g h k gh hk = record {
   watched = gh.watched ∙ hk.watched;
   shapes = gh.shapes ∙ hk.shapes;
@@ -67,13 +67,13 @@ declared_trans g h k gh hk = record {
 
 -- ---- models
 
-pub same_are_alike : (g h : EventGraph) → Same g h → Declared g h → Alike g h
+pub same_are_alike : (g h : EventGraph) → Same g h → DeclaredAlike g h → AreAlike g h
 same_are_alike g h same declared = record {
   declared = declared;
   runs = λ seed fits starts ok until early. looks-alike (λ n. look g seed starts until n) (λ n. look h seed starts until n) (same.runs seed fits starts ok until early);
 }
 
-pub alike_refl : (g : EventGraph) → Alike g g
+pub alike_refl : (g : EventGraph) → AreAlike g g
 alike_refl g = record {
   declared = declared_refl g;
   runs = λ seed fits starts ok until early.
@@ -81,7 +81,7 @@ alike_refl g = record {
       record { forth = itself; back = itself };
 }
 
-pub alike_sym : (g h : EventGraph) → Alike g h → Alike h g
+pub alike_sym : (g h : EventGraph) → AreAlike g h → AreAlike h g
 alike_sym g h gh = record {
   declared = declared_sym g h gh.declared;
   runs = λ seed fits starts ok until early.
@@ -89,7 +89,7 @@ alike_sym g h gh = record {
       record { forth = both.back; back = both.forth };
 }
 
-pub alike_trans : (g h k : EventGraph) → Alike g h → Alike h k → Alike g k
+pub alike_trans : (g h k : EventGraph) → AreAlike g h → AreAlike h k → AreAlike g k
 alike_trans g h k gh hk = record {
   declared = declared_trans g h k gh.declared hk.declared;
   runs = λ seed fits starts ok until early.

@@ -6,7 +6,7 @@ use Rattle.model_core.specs.EventGraph.{EventGraph}
 use Rattle.model_core.specs.Run.Machine.{Note, Look, finished, Move, Rests, Fails, Goes, before, ahead, after, look_of}
 use Rattle.model_core.specs.Run.History.{next_move, start, allowed, look}
 use Rattle.model_core.specs.Run.Same.{Begins}
-use Rattle.alike_laws.specs.Alike.{ShownBy, Alike}
+use Rattle.alike_laws.specs.AreAlike.{ShownBy, AreAlike}
 use Rattle.alike_laws.specs.LooksApart.{LooksApart, OtherEnds, FirstOver, SecondOver, OtherNotes}
 use Rattle.alike_laws.proofs.AlikeModels.{begins_further, finished_too}
 
@@ -103,7 +103,7 @@ not_apart f g s t forth back n k (OtherNotes going going_too missing missing_too
     let (m, begins) = back.shows k in
     elim (shown_together f n m s (look_of g k t).history begins) [ inl first ↦ missing first | inr second ↦ missing_too second ]
 
-pub apart_not_alike : (g h : EventGraph) (seed : ℕ) → seed < 2 ^ 64 → (starts : List ℤ) → IsTrue (allowed g starts) → (until : ℕ) → until ≤ 2 ^ 48 → (n k : ℕ) → LooksApart (look g seed starts until n) (look h seed starts until k) → ¬ Alike g h
+pub apart_not_alike : (g h : EventGraph) (seed : ℕ) → seed < 2 ^ 64 → (starts : List ℤ) → IsTrue (allowed g starts) → (until : ℕ) → until ≤ 2 ^ 48 → (n k : ℕ) → LooksApart (look g seed starts until n) (look h seed starts until k) → ¬ AreAlike g h
 apart_not_alike g h seed fits starts ok until early n k apart alike =
     let runs = alike.runs seed fits starts ok until early in
     not_apart (next_move g seed until) (next_move h seed until) (start g starts) (start h starts) runs.forth runs.back n k apart

@@ -1,5 +1,5 @@
-pub mod Declared
-pub mod Alike
+pub mod DeclaredAlike
+pub mod AreAlike
 pub mod LooksApart
 pub mod Folded
 pub mod MappedParts

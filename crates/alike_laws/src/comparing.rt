@@ -4,8 +4,8 @@ ghost use Rattle.std.specs.Prelude.{◌≡◌, ℕ, ◌^◌, ◌<◌, ◌≤◌,
 ghost use Rattle.model_core.specs.EventGraph.{EventGraph};
 ghost use Rattle.model_core.specs.Run.History.{allowed, look};
 ghost use Rattle.model_core.specs.Rules.SameGraph.{same_graph};
-ghost use Rattle.alike_laws.specs.Declared.{Declared};
-ghost use Rattle.alike_laws.specs.Alike.{Alike};
+ghost use Rattle.alike_laws.specs.DeclaredAlike.{DeclaredAlike};
+ghost use Rattle.alike_laws.specs.AreAlike.{AreAlike};
 ghost use Rattle.alike_laws.specs.LooksApart.{LooksApart};
 ghost use Rattle.alike_laws.specs.Nameless.{nameless};
 
@@ -15,8 +15,8 @@ use crate::renaming::names_are_not_seen;
 /// Two models that declare the same are alike if they lead to equal forms: each to one that is alike, and these two are equal but
 /// for names.
 pub fn models_with_one_form_are_alike()
-    ensures { (g h one other : EventGraph) → Alike g one → Alike h other
-        → same_graph (nameless one) (nameless other) ≡ true → Declared g h → Alike g h }
+    ensures { (g h one other : EventGraph) → AreAlike g one → AreAlike h other
+        → same_graph (nameless one) (nameless other) ≡ true → DeclaredAlike g h → AreAlike g h }
 {
     meaning_alike_is_an_equivalence();
     names_are_not_seen();
@@ -27,6 +27,6 @@ pub fn models_with_one_form_are_alike()
 pub fn models_apart_are_not_alike()
     ensures looks { (g h : EventGraph) (seed : ℕ) → seed < 2 ^ 64 → (starts : List ℤ)
         → IsTrue (allowed g starts) → (until : ℕ) → until ≤ 2 ^ 48 → (n k : ℕ)
-        → LooksApart (look g seed starts until n) (look h seed starts until k) → ¬ Alike g h }
-    ensures declared { (g h : EventGraph) → ¬ Declared g h → ¬ Alike g h }
+        → LooksApart (look g seed starts until n) (look h seed starts until k) → ¬ AreAlike g h }
+    ensures declared { (g h : EventGraph) → ¬ DeclaredAlike g h → ¬ AreAlike g h }
 {}

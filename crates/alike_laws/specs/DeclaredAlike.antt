@@ -22,7 +22,7 @@ watched_shapes g = map (shape_at g) (watched_variables g.watch)
 abbrev pub first_kinds : EventGraph → List Kind
 first_kinds g = map (λ v. (variable_at g v).kind) (vertex_at g 0).parameters
 
-pub record Declared (g h : EventGraph) : Type 0 where
+pub record DeclaredAlike (g h : EventGraph) : Type 0 where
   -- the watch lists name the same things in the same order
   pub watched : map (watched_name_of g) g.watch ≡ map (watched_name_of h) h.watch
   -- each watched variable has one kind and one size in both

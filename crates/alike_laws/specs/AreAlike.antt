@@ -5,7 +5,7 @@ use Rattle.model_core.specs.EventGraph.{EventGraph}
 use Rattle.model_core.specs.Run.Machine.{Look, finished}
 use Rattle.model_core.specs.Run.History.{allowed, look}
 use Rattle.model_core.specs.Run.Same.{Begins}
-use Rattle.alike_laws.specs.Declared.{Declared}
+use Rattle.alike_laws.specs.DeclaredAlike.{DeclaredAlike}
 
 -- what is seen of the first machine is seen of the second
 pub record ShownBy (first second : ℕ → Look) : Type 0 where
@@ -20,6 +20,6 @@ pub record AlikeLooks (first second : ℕ → Look) : Type 0 where
   pub back : ShownBy second first
 
 -- two models, for every seed, allowed starting values and stop time
-pub record Alike (g h : EventGraph) : Type 0 where
-  pub declared : Declared g h
+pub record AreAlike (g h : EventGraph) : Type 0 where
+  pub declared : DeclaredAlike g h
   pub runs : (seed : ℕ) → seed < 2 ^ 64 → (starts : List ℤ) → IsTrue (allowed g starts) → (until : ℕ) → until ≤ 2 ^ 48 → AlikeLooks (λ n. look g seed starts until n) (λ n. look h seed starts until n)
