@@ -7,6 +7,7 @@ A module with commands has `COMMANDS`, a tuple of `Command`.  It loads numpy and
 from __future__ import annotations
 
 import argparse
+import itertools
 import re
 import sys
 from collections.abc import Callable, Sequence
@@ -79,6 +80,7 @@ class Parser(argparse.ArgumentParser):
 
     def __init__(self, name: str, about: str) -> None:
         self._valued: set[str] = set()
+        self._repeated: set[str] = set()
         super().__init__(name, description=about, allow_abbrev=False)
 
     def add_argument(self, *words: Any, **options: Any) -> argparse.Action:
@@ -86,6 +88,8 @@ class Parser(argparse.ArgumentParser):
         action = super().add_argument(*words, **options)
         if action.nargs != 0:
             self._valued.update(action.option_strings)
+        if options.get("action") == "append":
+            self._repeated.update(action.option_strings)
         return action
 
     def read(self, words: Sequence[str]) -> argparse.Namespace:
@@ -96,7 +100,15 @@ class Parser(argparse.ArgumentParser):
                 made[-1] += "=" + word
             else:
                 made.append(word)
+        self._check_once(made)
         return self.parse_intermixed_args(made)
+
+    def _check_once(self, words: Sequence[str]) -> None:
+        """Refuses a second value of an option, which would silently win."""
+        given = [word.partition("=")[0] for word in itertools.takewhile(lambda w: w != "--", words)]
+        for option in self._valued - self._repeated:
+            if given.count(option) > 1:
+                self.error(f"argument {option}: it is given twice")
 
     def error(self, message: str) -> NoReturn:
         """One line, without the usage."""

@@ -6,7 +6,7 @@ import re
 from collections.abc import Iterable, Iterator, Sequence
 from dataclasses import dataclass
 from itertools import pairwise
-from operator import le
+from operator import le, lt
 from typing import NoReturn
 
 from .errors import BadReport
@@ -44,6 +44,8 @@ class Reader:
         The watched cells, which the first line shows.
     is_truth : list of bool
         Which of them are truth values.
+    begin : int
+        The tick of the first line: 0, unless the history is a later part of a run.
     last : tuple of (str, int, str), or None
         Outcome, tick and kind of fault, once the last line was read.
     """
@@ -52,8 +54,10 @@ class Reader:
         self.source = source
         self.items: list[str] = []
         self.is_truth: list[bool] = []
+        self.begin = 0
         self.last: tuple[str, int, str] | None = None
         self._line, self._clock = 1, 0
+        self._noted = -1
         self._rows: re.Pattern[bytes] | None = None
 
     def refuse(self, message: str, line: int | None) -> NoReturn:
@@ -131,6 +135,9 @@ class Reader:
             clocks = (self._clock, *times)
             late = next(k for k, (a, b) in enumerate(pairwise(clocks)) if a > b)
             self.refuse("it goes back in time", self._line + late)
+        self._check_once_a_tick(at)
+        if self._line == 1:
+            self.begin = times[0]
         self._clock = times[-1]
         numbers = [
             [int(value == b"true") for value in column] if truth else list(map(int, column))
@@ -142,6 +149,16 @@ class Reader:
                 self.refuse("a value is outside 64 bits", self._line + late)
         self._line += len(times)
         return Block(times, events, numbers)
+
+    def _check_once_a_tick(self, at: Sequence[bytes]) -> None:
+        """A tick has one line of values alone."""
+        noted = [int(tick) for tick in at if tick]
+        ticks = (self._noted, *noted)
+        if not all(map(lt, ticks, ticks[1:])):
+            twice = next(k for k, (a, b) in enumerate(pairwise(ticks)) if a == b)
+            rows = [row for row, tick in enumerate(at) if tick]
+            self.refuse("a second line of values in one tick", self._line + rows[twice])
+        self._noted = ticks[-1]
 
     def _explain(self, text: bytes) -> NoReturn:
         """Names the first line that is no note of this history."""

@@ -116,6 +116,11 @@ class LongRun:
         reader = Reader(source)
         for block in reader.read(blocks):
             columns = dict(zip(reader.items, block.cells))
+            if reader.begin > self.start:
+                raise InputError(
+                    f"the history begins at tick {reader.begin}, so nothing is known of the time before: "
+                    "take a warm-up that ends there or later"
+                )
             unknown = {n for f in self._formulas.values() for n in f.names} - set(columns)
             if unknown:
                 raise InputError(

@@ -80,6 +80,9 @@ def read(data: bytes, source: str = "", line: int = 1) -> list[Columns]:
     if lines.pop() != b"":
         cut = line + len(lines)
         raise BadReport("the last line has no line end, so the report is cut off", cut, source)
+    if lines[0] == HEADER + b"\r":
+        text = "the line ends in CR LF, not in a line feed alone (tr -d '\\r' takes the CR away)"
+        raise BadReport(text, line, source)
     if lines[0] != HEADER:
         raise BadReport("this is no report: its header is another one", line, source)
     starts = [number for number, text in enumerate(lines) if text == HEADER]
@@ -139,25 +142,27 @@ class _Reader:
                 self.refuse(at, f"run 1 has {name.decode()} twice")
         count = -(-len(run) // width)
         expected = list(chain.from_iterable(repeat(b"%d" % k, width) for k in range(1, count + 1)))
-        for at, (here, wanted) in self._pairs(run, expected):
-            if here != wanted:
-                if at % width and here == b"%d" % (int(wanted) + 1):
-                    self.refuse(at, f"run {int(wanted)} has no row of {names[at % width].decode()}")
-                self._wrong_run(at, here, int(wanted) + (at % width > 0))
-        for at, (here, wanted) in self._pairs(item, names * count):
-            if here != wanted:
-                place = f"item {at % width + 1} of run {at // width + 1}"
-                shown = here.decode("ascii", "backslashreplace")
-                self.refuse(at, f"{place} is {shown}, and the first run has {wanted.decode()}")
+        if run != expected[: len(run)] or item != (names * count)[: len(item)]:
+            for at, wanted in enumerate(expected[: len(run)]):
+                self._check_place(at, (run[at], wanted), (item[at], names[at % width]), width)
         if len(run) % width:
             missing = names[len(run) % width].decode()
             self.refuse(len(run), f"run {count} has no row of {missing}")
         return tuple(name.decode() for name in names)
 
-    @staticmethod
-    def _pairs(column: Fields, wanted: Fields) -> Iterable[tuple[int, tuple[bytes, bytes]]]:
-        """The rows of a column with their fields and those that have to be there; none if all are."""
-        return () if column == wanted else enumerate(zip(column, wanted))
+    def _check_place(
+        self, at: int, run: tuple[bytes, bytes], item: tuple[bytes, bytes], width: int
+    ) -> None:
+        """Whether a row is of the run and the item that have to be there: pairs of what is, and what has to be."""
+        (here, wanted), (shown, known) = run, item
+        if here != wanted:
+            if at % width and here == b"%d" % (int(wanted) + 1):
+                self.refuse(at, f"run {int(wanted)} has no row of {known.decode()}")
+            self._wrong_run(at, here, int(wanted) + (at % width > 0))
+        if shown != known:
+            place = f"item {at % width + 1} of run {at // width + 1}"
+            name = shown.decode("ascii", "backslashreplace")
+            self.refuse(at, f"{place} is {name}, and the first run has {known.decode()}")
 
     def _wrong_run(self, row: int, here: bytes, wanted: int) -> NoReturn:
         if _WHOLE.fullmatch(here) is None:
