@@ -6,6 +6,7 @@ import shutil
 from collections.abc import Callable, Generator
 
 import pytest
+from _pytest.terminal import TerminalReporter
 
 from support.places import find_program
 from support.program import Program
@@ -95,6 +96,15 @@ def pytest_make_collect_report(
     """Refuse skips of whole files."""
     outcome = yield
     refuse_skip(outcome.get_result())  # type: ignore[attr-defined]
+
+
+def pytest_terminal_summary(terminalreporter: TerminalReporter) -> None:
+    """Write what tests have to show though they passed: their property `shown`."""
+    for reports in terminalreporter.stats.values():
+        for report in reports:
+            for name, text in getattr(report, "user_properties", ()):
+                if name == "shown" and getattr(report, "when", "call") == "call":
+                    terminalreporter.write_line(str(text))
 
 
 def pytest_unconfigure(config: pytest.Config) -> None:

@@ -1,4 +1,4 @@
-"""What pages show: commands after a `$` with their output, links, and headings."""
+"""What pages show: commands after a `$` with their output, links, headings, and sentences."""
 
 from __future__ import annotations
 
@@ -10,6 +10,9 @@ from dataclasses import dataclass, field
 COMMAND = re.compile(r"^(    +)\$ (.*)$")
 LINK = re.compile(r"!?\[(?:[^\[\]]|\[[^\]]*\])*\]\(([^()\s]+(?:\([^()]*\))?)(?: \"[^\"]*\")?\)")
 HEADING = re.compile(r"^#{1,6} (.*?)#*$")
+WRITTEN = re.compile(r"<!-- docs/write: (?!end).*?<!-- docs/write: end -->", re.S)
+ITEM = re.compile(r"^ *([-*]|\d+\.) +")
+END = re.compile(r"(?<=[.!?:;])[*_)\"]* +(?=[*_(\"]*[A-Z`\d\[])")
 
 
 @dataclass
@@ -87,3 +90,44 @@ def anchors(page: str) -> set[str]:
         found.add(name if not counts[name] else f"{name}-{counts[name]}")
         counts[name] += 1
     return found
+
+
+@dataclass(frozen=True)
+class Sentence:
+    """A sentence of a page, and the line at which its paragraph begins."""
+
+    line: int
+    text: str
+
+    @property
+    def words(self) -> int:
+        """Count its words: what is in code marks is one, and signs alone are none."""
+        text = re.sub(
+            r"`[^`]*`", "code", LINK.sub(lambda link: link[0][: link[0].index("](")], self.text)
+        )
+        return sum(any(letter.isalnum() for letter in word) for word in text.split())
+
+
+def paragraphs(page: str) -> Iterator[tuple[int, str]]:
+    """List the paragraphs and items of a page, without headings, tables, code and written parts."""
+    blank = WRITTEN.sub(lambda part: "\n" * part[0].count("\n"), page)
+    begun, lines = 0, list[str]()
+    is_fenced = False
+    for number, line in enumerate([*blank.splitlines(), ""], start=1):
+        is_fenced ^= line.lstrip().startswith("```")
+        is_other = (
+            is_fenced or not line.strip() or line.startswith(("    ", "#", "|", "```", "<!--"))
+        )
+        if lines and (is_other or ITEM.match(line)):
+            yield begun, " ".join(lines)
+            lines = []
+        if not is_other:
+            begun = begun if lines else number
+            lines.append(ITEM.sub("", line).strip())
+
+
+def sentences(page: str) -> Iterator[Sentence]:
+    """List the sentences of a page."""
+    for line, paragraph in paragraphs(page):
+        for text in END.split(paragraph):
+            yield Sentence(line, text)
