@@ -1,0 +1,4 @@
+pub mod DeclaredFrom
+pub mod DeclaredAlike
+pub mod RoundLaws
+pub mod NormalLaws
