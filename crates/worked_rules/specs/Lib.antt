@@ -10,3 +10,4 @@ pub mod NeedHalves
 pub mod EdgeModels
 pub mod PerformedEvents
 pub mod GraphsApart
+pub mod NormalModels

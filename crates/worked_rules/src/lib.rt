@@ -10,6 +10,7 @@ mod meeting_vertices;
 mod merge_halves;
 mod need_halves;
 mod needed_rounds;
+mod normal_rounds;
 mod performing;
 mod rows_of_bounds;
 mod taken_values;
@@ -51,6 +52,7 @@ pub use need_halves::{
 pub use needed_rounds::{
     cells_grow_in_rounds, ranges_are_found, ranges_grow, rounds_end, some_ranges_stay,
 };
+pub use normal_rounds::{a_round_has_three_parts, rounds_end_where_one_changes_nothing};
 pub use performing::{
     entries_are_counted, events_have_places, faults_are_of_both, orders_may_differ,
 };
