@@ -152,6 +152,11 @@ def test_reduce_explains_and_takes(page: Browser) -> None:
     page.click(".reduce-result .primary")
     page.until(ACCEPTED)
     assert page.js("return sigma.store.undo_label").startswith("Take the result")
+    # Comments of what stays stay, and what is in place isn't called out of date.
+    text = page.js("return sigma.store.doc.text")
+    assert text.startswith("# ") and "vertex ALARM" not in text
+    page.until("document.querySelector('.reduce-result .primary').textContent.includes('in place')")
+    assert not page.js("return document.querySelector('.reduce-tab .stale')")
 
 
 def test_conflicts_say_how_often_they_met(page: Browser) -> None:

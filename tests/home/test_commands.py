@@ -65,10 +65,10 @@ def rows(page: Path, head: str) -> list[list[str]]:
 
 
 def test_the_options_in_answers() -> None:
-    """The table of docs/use/answers.md has the options of each command."""
+    """The table of docs/use/commands.md has the options of each command."""
     told = {}
     for names, needed, others in rows(
-        TOP / "docs/use/answers.md", "| command | options that are needed"
+        TOP / "docs/use/commands.md", "| command | options that are needed"
     ):
         for name in re.findall(r"`([a-z]+)`", names):
             told[name] = Command(
@@ -89,10 +89,10 @@ def number(text: str) -> int:
 
 
 def test_the_limits_in_answers() -> None:
-    """The table of docs/use/answers.md has the limits of each option."""
+    """The table of docs/use/commands.md has the limits of each option."""
     told = {}
     limit = r"(-?\d[\d,^]*\d|\d)( - 1)?"
-    for name, value, *_ in rows(TOP / "docs/use/answers.md", "| option | value"):
+    for name, value, *_ in rows(TOP / "docs/use/commands.md", "| option | value"):
         found = re.search(f"{limit} to {limit}", value)
         assert found is not None, name
         first, less, second, less_too = (part or "" for part in found.groups())

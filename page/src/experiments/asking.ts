@@ -4,9 +4,10 @@ import { Column, Report, values_of } from "../engine/report";
 import { Engine } from "../engine/wire";
 import { first_start } from "../run/words";
 import { ExperimentSettings } from "../store/settings";
-import { Design, Snapshot } from "../store/store";
+import { Design, judge, Snapshot } from "../store/store";
 import { apply_edits, set_variable } from "../text/edits";
 import { Model, read_model, variable_of } from "../text/model";
+import { refusal_in_words } from "../text/refusals";
 import { share, Summary, summary } from "./statistics";
 
 export interface Outcome { id: number; name: string; text: string; replicated: Replicated }
@@ -37,9 +38,9 @@ export class Asking {
     return outcomes;
   }
   private async canonical({ name, text }: Design): Promise<string> {
-    const answer = await this.engine.call({ words: ["print"], input: text, signal: this.signal });
-    if (answer.status !== 0) throw new Error(`The program refuses the design “${name}”: ${answer.err.trim().replace(/^sigma: /, "")}`);
-    return answer.out;
+    const verdict = await judge(this.engine, text, 0, this.signal);
+    if (verdict.state === "accepted") return verdict.model.text;
+    throw new Error(`The program refuses the design “${name}”${verdict.state === "refused" ? `: ${refusal_in_words(text, verdict.refusal).words}` : "."}`);
   }
 
   /** The model with another first value; its range is widened where it must be. */

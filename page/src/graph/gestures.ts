@@ -7,6 +7,9 @@ import { Point } from "./layout";
 const GRID = 8;
 const snapped = (at: Point): Point => ({ x: Math.round(at.x / GRID) * GRID, y: Math.round(at.y / GRID) * GRID });
 
+/** What lies under the pointer now: if the press ended a movement, that is another part than the one that the event names. */
+const under = ({ clientX, clientY }: MouseEvent): Element | null => document.elementFromPoint(clientX, clientY);
+
 export class Gestures {
   private dragged = false;
 
@@ -15,9 +18,9 @@ export class Gestures {
     svg.addEventListener("pointerdown", event => this.pressed(event as PointerEvent), true);
     svg.addEventListener("click", event => {
       if (this.dragged) { this.dragged = false; return; }
-      const group = (event.target as Element).closest("[data-group]")?.getAttribute("data-group"), mouse = event as MouseEvent;
+      const mouse = event as MouseEvent, target = under(mouse), group = target?.closest("[data-group]")?.getAttribute("data-group");
       if (group) { canvas.approach(group); return; }
-      events.pick?.(canvas.part(event.target)?.picked ?? null, mouse.shiftKey || mouse.ctrlKey || mouse.metaKey);
+      events.pick?.(canvas.part(target)?.picked ?? null, mouse.shiftKey || mouse.ctrlKey || mouse.metaKey);
     });
     svg.addEventListener("dblclick", event => {
       const part = canvas.part(event.target), field = (event.target as Element).closest("[data-field]")?.getAttribute("data-field");
@@ -36,10 +39,11 @@ export class Gestures {
   }
 
   private pressed(event: PointerEvent): void {
-    const { canvas } = this, part = canvas.part(event.target);
+    this.canvas.settle();
+    const { canvas } = this, target = under(event), part = canvas.part(target);
     canvas.view.may_pan = !part && !event.shiftKey && event.button !== 2;
     if (event.button !== 0 && event.pointerType === "mouse") return;
-    if (part?.picked.kind === "event" && (event.target as Element).closest(".handle")) this.drag_edge(event, part.picked.name);
+    if (part?.picked.kind === "event" && target!.closest(".handle")) this.drag_edge(event, part.picked.name);
     else if (part?.picked.kind === "event") this.drag_node(event, part.picked.name);
     else if (!part && event.shiftKey) this.drag_marquee(event);
   }

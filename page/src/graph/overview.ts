@@ -6,14 +6,33 @@ import { Transform } from "./view";
 
 export interface Seen { name: string; members: readonly string[]; box: Box; pending: number; lit: string; selected: boolean }
 export interface Joined { from: number; to: number; count: number }
+export const joined_width = (count: number): number => Math.min(4, 1 + Math.log2(count));
+/** A group in the units of the screen: the box by its corner, and its words. */
+export interface GroupView extends Box { group: Seen; corner: number; lit: boolean; selected: boolean; texts: { words: string; x: number; y: number; kind: "title" | "waits" | "says" }[] }
 
 const BOLD = "600 12px Inter, system-ui, sans-serif", PLAIN = "12px Inter, system-ui, sans-serif", LINE = 15;
 
+/** As much of a text as there is room for, by the share of its width: to measure each shorter one would take too long in each frame. */
 function cut(text: string, room: number, font: string): string {
-  if (text_width(text, font) <= room) return text;
-  let end = text.length;
-  while (end > 1 && text_width(text.slice(0, end) + "…", font) > room) end--;
-  return text.slice(0, end) + "…";
+  const whole = text_width(text, font);
+  return whole <= room ? text : text.slice(0, Math.max(1, Math.floor(text.length * room / whole) - 1)) + "…";
+}
+
+/** Its first event names a group; below are how many are pending, and as many of its other events as there is room for. */
+export function group_views(groups: readonly Seen[], k: number): GroupView[] {
+  return groups.map(group => {
+    const { name, members, box, pending, lit, selected } = group, width = Math.max(18, box.width * k), height = Math.max(14, box.height * k), x = box.x * k - width / 2, y = box.y * k - height / 2;
+    const rows = Math.max(0, Math.floor((height - 10) / LINE)), waits = pending ? `${pending} pending` : "", texts: GroupView["texts"] = [];
+    const others = members.slice(1), free = rows - 1 - (waits ? 1 : 0), names = free >= others.length ? others : others.slice(0, Math.max(0, free - 1)), rest = others.length - names.length;
+    const say = (words: string, kind: "title" | "waits" | "says"): void => { texts.push({ words: cut(words, width - 14, kind === "title" ? BOLD : PLAIN), x: x + 8, y: y + 16 + texts.length * LINE, kind }); };
+    if (width >= 34 && rows > 0) {
+      say(lit || name, "title");
+      if (waits && rows > 1) say(waits, "waits");
+      for (const each of names) say(each === lit ? name : each, "says");
+      if (rest > 0 && free > 0) say(`+ ${rest} more`, "says");
+    }
+    return { group, x, y, width, height, corner: Math.min(10, height / 3), lit: lit !== "", selected, texts };
+  });
 }
 
 export class Overview {
@@ -31,20 +50,14 @@ export class Overview {
     this.drawn = groups;
     const lines = joined.map(({ from, to, count }) => {
       const a = groups[from].box, b = groups[to].box;
-      return s("path", { class: "joined", d: `M${a.x * at.k} ${a.y * at.k}L${b.x * at.k} ${b.y * at.k}`, "stroke-width": Math.min(4, 1 + Math.log2(count)) }, s("title", {}, `${groups[from].name} … ${groups[to].name}: ${count}`));
+      return s("path", { class: "joined", d: `M${a.x * at.k} ${a.y * at.k}L${b.x * at.k} ${b.y * at.k}`, "stroke-width": joined_width(count) }, s("title", {}, `${groups[from].name} … ${groups[to].name}: ${count}`));
     });
-    this.element.replaceChildren(s("g", {}, ...lines), s("g", {}, ...groups.map(group => this.box(group, at.k))));
+    this.element.replaceChildren(s("g", {}, ...lines), s("g", {}, ...group_views(groups, at.k).map(drawn_group)));
   }
+}
 
-  private box({ name, members, box, pending, lit, selected }: Seen, k: number): SVGElement {
-    const width = Math.max(18, box.width * k), height = Math.max(14, box.height * k), x = box.x * k - width / 2, y = box.y * k - height / 2, room = width - 14;
-    // Its first event names it; below are how many are pending, and as many of its other events as there is room for.
-    const rows = Math.max(0, Math.floor((height - 10) / LINE)), says = `${members.length} event${members.length === 1 ? "" : "s"}${pending ? `, ${pending} pending` : ""}`, waits = pending ? `${pending} pending` : "";
-    const others = members.slice(1), free = rows - 1 - (waits ? 1 : 0), names = free >= others.length ? others : others.slice(0, Math.max(0, free - 1)), rest = others.length - names.length;
-    const text = (words: string, row: number, kind: string): SVGElement => s("text", { class: kind, x: x + 8, y: y + 16 + row * LINE }, cut(words, room, kind === "title" ? BOLD : PLAIN));
-    return s("g", { class: `group-box${lit ? " lit" : ""}${selected ? " selected" : ""}`, "data-group": name }, s("title", {}, `${name}: ${says}\n${members.join(", ")}`),
-      s("rect", { x, y, width, height, rx: Math.min(10, height / 3) }),
-      ...(room < 20 || rows < 1 ? [] : [text(lit || name, 0, "title"), waits && rows > 1 ? text(waits, 1, "waits") : null,
-        ...names.map((each, i) => text(each === lit ? name : each, i + 1 + (waits ? 1 : 0), "says")), rest > 0 && free > 0 ? text(`+ ${rest} more`, names.length + 1 + (waits ? 1 : 0), "says") : null]));
-  }
+function drawn_group({ group: { name, members, pending }, x, y, width, height, corner, lit, selected, texts }: GroupView): SVGElement {
+  const says = `${members.length} event${members.length === 1 ? "" : "s"}${pending ? `, ${pending} pending` : ""}`;
+  return s("g", { class: `group-box${lit ? " lit" : ""}${selected ? " selected" : ""}`, "data-group": name }, s("title", {}, `${name}: ${says}\n${members.join(", ")}`),
+    s("rect", { x, y, width, height, rx: corner }), ...texts.map(({ words, x: left, y: base, kind }) => s("text", { class: kind, x: left, y: base }, words)));
 }

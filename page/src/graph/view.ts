@@ -30,8 +30,8 @@ export class View {
   /** What lies over the lower edge of the paper. */
   foot = 0;
 
-  constructor(private readonly svg: SVGElement, private readonly element: HTMLElement, changed: (at: Transform) => void, still: boolean) {
-    this.zoomed = zoom().scaleExtent([LEAST, MOST]).filter(() => this.may_pan && !still).on("zoom", () => changed(this.at));
+  constructor(private readonly svg: SVGElement, private readonly element: HTMLElement, changed: (at: Transform, by_hand: boolean) => void, still: boolean) {
+    this.zoomed = zoom().scaleExtent([LEAST, MOST]).filter(() => this.may_pan && !still).on("zoom", () => changed(this.at, this.by_hand));
     select(svg).call(this.zoomed as never).on("dblclick.zoom", null).on("wheel.zoom", null);
     if (still) return;
     svg.addEventListener("pointerdown", () => { this.pressed = true; }, true);
@@ -48,13 +48,21 @@ export class View {
     this.size = { width: this.element.clientWidth, height: this.element.clientHeight };
     this.zoomed.extent([[0, 0], [this.size.width, this.size.height]]);
   }
+  get whole_room(): Room {
+    if (!this.size.width) this.resize();
+    return this.size;
+  }
   get room(): Room {
     if (!this.size.width) this.resize();
     return { width: this.size.width, height: Math.max(60, this.size.height - this.foot) };
   }
-  set(at: Transform): void {
+  /** Whether the paper is moved by a hand now: then more movements follow. */
+  private by_hand = true;
+  set(at: Transform, by_hand = false): void {
     if (![at.x, at.y, at.k].every(Number.isFinite)) return;
+    this.by_hand = by_hand;
     this.zoomed.transform(select(this.svg), zoomIdentity.translate(at.x, at.y).scale(at.k));
+    this.by_hand = true;
   }
 
   fit(box: Box, most: number): void {
@@ -76,12 +84,12 @@ export class View {
   }
   zoom_by(by: number, around?: Point): void {
     const { x, y, k } = this.at, { width, height } = this.room, about = around ?? { x: width / 2, y: height / 2 }, to = Math.max(LEAST, Math.min(MOST, k * by));
-    this.set({ k: to, x: about.x - (about.x - x) * to / k, y: about.y - (about.y - y) * to / k });
+    this.set({ k: to, x: about.x - (about.x - x) * to / k, y: about.y - (about.y - y) * to / k }, true);
     this.is_own = true;
   }
   pan_by(dx: number, dy: number): void {
     const { x, y, k } = this.at;
-    this.set({ x: x + dx, y: y + dy, k });
+    this.set({ x: x + dx, y: y + dy, k }, true);
     this.is_own = true;
   }
 

@@ -5,7 +5,7 @@ import { icon } from "../ui/icons";
 import { keep, kept_json } from "./kept";
 
 type Dock = "open" | "max" | "closed";
-const FIRST: Record<string, Dock> = { run: "open", experiments: "max", reduce: "max", conflicts: "open", describe: "open", console: "open" };
+const FIRST: Record<string, Dock> = { run: "open", experiments: "max", reduce: "max", conflicts: "open", problems: "open", describe: "open", console: "open" };
 
 export class Tabs {
   readonly bar = h("div", { className: "tab-bar", role: "tablist", "aria-label": "Tabs" });
@@ -42,7 +42,7 @@ export class Tabs {
   }
   toggle_max(): void { this.set_dock(document.body.dataset.dock === "max" ? "open" : "max"); }
 
-  private show(): void {
+  show(): void {
     const { tabs } = this.app, { dock } = document.body.dataset, is_max = dock === "max", is_closed = dock === "closed";
     const step = (event: KeyboardEvent, tab: Tab) => {
       const by = { ArrowRight: 1, ArrowLeft: -1 }[event.key];
@@ -57,7 +57,7 @@ export class Tabs {
       ...tabs.map(tab => h("button", {
         role: "tab", id: `tab-${tab.id}`, "aria-selected": String(tab.id === this.app.tab), "aria-controls": "tab-body", tabIndex: tab.id === this.app.tab ? 0 : -1,
         onclick: () => this.open(tab.id), onkeydown: (event: KeyboardEvent) => step(event, tab),
-      }, icon(tab.icon, 14), h("span", {}, tab.title))),
+      }, icon(tab.icon, 14), h("span", {}, tab.title), tab.badge?.() ? h("span", { className: "badge" }, tab.badge()) : null)),
       h("span", { className: "grow" }),
       button(is_max ? "Make the panel smaller" : "Maximise the panel", is_max ? "min" : "max", () => this.toggle_max()),
       button(is_closed ? "Open the panel" : "Close the panel", is_closed ? "up" : "down", () => this.set_dock(is_closed ? "open" : "closed")),
