@@ -17,7 +17,7 @@ use std::alloc::Global;
 
 /// How the words end on a text that comes from a source which never fails, where outputs keep nothing.
 pub fn sure_status(alloc: Global, words: &[String], text: Text) -> Status
-    // Words that are a job leave no status but that of the job's answer to the text, and want of memory.
+    // Words that are a job leave no status but that of the job's answer to the text, and out of memory.
     ensures { (job : Job) → job_of (map string_bytes words.now) ≡ Some job
         → (result ≡ Status.NoMemory)
         ⊎ IfSome (text_of (limit_of (reading_of job)) (Some text))

@@ -24,7 +24,7 @@ pub option_more : (with_one : App → Text → App) (before after all : App) (na
     → fold with_one before names ≡ all → fold with_one after rest ≡ all
 option_more with_one before after all names rest name more one so_far = ap (λ a. fold with_one a rest) one ∙ sym (ap (fold with_one before) more) ∙ so_far
 
--- an error that isn't want of memory is a fault
+-- an error other than out of memory is a fault
 fault_there : {X : Type 0} (e : Error) (kinds : Kinds) (answer : Option X) → HasKind kinds e → kind_of e ≢ kind.OutOfMemory → None ≡ unless kinds answer
 fault_there e [] answer (inl is) other = absurd (other is)
 fault_there e [] answer (inr is) other = absurd is
@@ -38,7 +38,7 @@ accepted a words m matches none is =
     let no_fault : fault_of (command_line option_names) words ≡ [] = subst (λ (b : App). is_simple_and_free b ≡ true → fault_of b words ≡ []) is none clap_is_simple in
     rw no_fault (ap (λ rs. Some rs) (rows (and_parts _ _ clap_is_simple).0).0)
 
--- what it refuses, but for want of memory, has none
+-- what it refuses has none, unless it is out of memory
 pub refused : (a : App) (words : List Text) (e : Error) → (is_simple_and_free a ≡ true → HasKind (fault_of a words) e) → a ≡ command_line option_names
     → kind_of e ≢ kind.OutOfMemory → None ≡ clap_rows words
 refused a words e kinds is other =

@@ -1,4 +1,4 @@
-//! Why words are no job.
+//! Why the words of the command line ask for no job.
 
 ghost use Rattle.std.specs.Prelude.{◌≡◌};
 ghost use Rattle.command_words.specs.declared.words_error.WordsError.TheVariants.{NoMemory as OutOfMemory};

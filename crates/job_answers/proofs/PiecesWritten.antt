@@ -112,7 +112,7 @@ passed_failure bytes r passed e o p is passes h =
     let (f, is_error, same) = err_from_is_err_and passed passes in
     (f, is_error, subst (λ (x : Wrote). WritesPieces bytes x o p) (is ∙ ap (λ (x : Failure). Err x) (sym same)) h)
 
--- want of memory
+-- out of memory
 pub passed_memory : (bytes : List ℕ) (passed : Wrote) (o p : Outlet) → IsErrAnd passed (λ f. f ≡ failures.NoMemory) → WritesPieces bytes (Err failures.NoMemory) o p → WritesPieces bytes passed o p
 passed_memory bytes passed o p passes h =
     let (f, is_error, same) = err_from_is_err_and passed passes in

@@ -1,4 +1,4 @@
-//! The text of a model that a command made and that is needed no more.
+//! A model that a command made, whose text is all that is still needed.
 
 ghost use Rattle.std.specs.Prelude.{◌≡◌, IfOk};
 ghost use Rattle.model_core.specs.Text.Canonical.{canonical};

@@ -225,7 +225,7 @@ module _ {S K E : Type 0} (source : S → Inlet) (sink : K → Outlet) (errors :
           let answer = reply_of_job job asked (Refused why line) h.0 h.1 h.2.answer in
           if_answers (reading_of job) (text_of (limit_of (reading_of job)) (source i).left) (λ a. status_of_refusal why ≡ status_of_answer a) (λ a. Grows (bytes_of_answer a)) answer.text (Refused why line) answer.of_input answer.answers refl (unwritten sink h.2.output_untouched)
 
-      -- no status is left but that of the answer, and want of memory
+      -- no status is left but that of the answer, and out of memory
       pub complete : (HasRisen (source i).faults (source j).faults → ⊥) → (HasRisen (sink o).faults (sink p).faults → ⊥) → (status : Status) → Ends source sink errors words i j o p e f status → (status ≡ statuses.NoMemory) ⊎ IsComplete (reading_of job) status (source i).left Grows
       complete read wrote statuses.Done h = inr (given_complete ends.Done h.0)
       complete read wrote statuses.Refused h = inr (refusal_complete refusals.Refused h.0 h.1)

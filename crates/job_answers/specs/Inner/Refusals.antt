@@ -1,4 +1,4 @@
--- The complaint for the error at which a step of reading ends, at the same byte, or want of memory; and what complaining did.
+-- The complaint for the error at which a step of reading ends, at the same byte, or out of memory; and what complaining did.
 use Rattle.std.specs.Prelude.{◌≡◌, Result, Err}
 use Rattle.sig_base.specs.Sink.{Outlet}
 use Rattle.model_lex.specs.declared.lex_error.LexError.{LexError}

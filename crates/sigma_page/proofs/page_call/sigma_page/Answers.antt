@@ -1,4 +1,4 @@
--- No call was made: for want of memory, or since a word isn't UTF-8.
+-- No call was made: memory was refused, or a word isn't UTF-8.
 use Rattle.std.proofs.Common.{◌≡◌, ℕ, List, refl, subst}
 use Rattle.answer_delivery.specs.FailureStatus.{status_of_failure}
 use Rattle.answer_delivery.specs.Statuses.{exit_status_of}
