@@ -16,8 +16,8 @@ function quoted(text) {
     cells = split($0, cell, " \\| ")
     sub(/^\| /, "", cell[1])
     title = cell[2]
-    sub(/ \(\[docs.*\)$/, "", title)
-    sub(/; \[docs.*$/, "", title)
+    sub(/ \(\[.*\)$/, "", title)
+    sub(/; \[.*$/, "", title)
     files = split(cell[1], file, ", ")
     for (i = 1; i <= files; i++) {
         name = file[i]
