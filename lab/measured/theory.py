@@ -6,7 +6,7 @@ Each example is run 100 times after a warm-up.  An interval of 95 per cent misse
 
 References
 ----------
-Gross, Shortle, Thompson and Harris 2008 (queues); docs/use/classics.md (the examples).
+Gross, Shortle, Thompson and Harris 2008 (queues); examples/README.md (the examples).
 """
 
 from __future__ import annotations
