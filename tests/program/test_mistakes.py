@@ -64,3 +64,23 @@ def test_nothing_after_the_last_brace(call: Program) -> None:
 def test_there_are_twenty() -> None:
     """The table is read whole."""
     assert len(list(mistakes())) == 20
+
+
+def broken_rules() -> Iterator[tuple[str, str, int]]:
+    """Read the table of the static rules: the message, a text that breaks the rule, and the byte."""
+    page = (TOP / "docs/use/model-text.md").read_text()
+    rows = re.findall(r"^\| `([a-z ]+2?)` \| .* \| (.*) \| (\d+) \|$", page, re.MULTILINE)
+    for message, text, byte in rows:
+        if text.startswith("`"):
+            yield message, text.strip("`"), int(byte)
+
+
+@pytest.mark.parametrize(("message", "text", "byte"), broken_rules())
+def test_broken_rules(message: str, text: str, byte: int, call: Program) -> None:
+    """Each text of the table breaks the rule that the page says, at the byte that it says."""
+    call("check", text.encode()).refuses(1, f"sigma: byte {byte}: {message}")
+
+
+def test_there_are_seventeen() -> None:
+    """Each rule has a text but the one on the length of a model, whose text is too long to show."""
+    assert len(list(broken_rules())) == 17
