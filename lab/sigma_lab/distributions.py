@@ -37,6 +37,11 @@ def _lognormal(mean: float, sd: float) -> Any:
     return _stats().lognorm(spread, scale=mean * math.exp(-(spread**2) / 2))
 
 
+def _geometric(mean: float) -> Any:
+    """A mean of 1 is 1 always, of which scipy's own law knows nothing."""
+    return _stats().geom(1 / mean) if mean > 1 else _stats().randint(1, 2)
+
+
 @dataclass(frozen=True)
 class Family:
     """A family of distributions.
@@ -83,7 +88,7 @@ FAMILIES: dict[str, Family] = {
         lambda a, b, p, q: 0 <= a < b and _positive(p, q),
     ),
     "poisson": Family("MEAN", lambda m: _stats().poisson(m), lambda m: 0 < m <= 1e8, True),
-    "geometric": Family("MEAN", lambda m: _stats().geom(1 / m), lambda m: 1 <= m <= 1e6, True),
+    "geometric": Family("MEAN", _geometric, lambda m: 1 <= m <= 1e6, True),
     "uniform": Family(
         "LEAST GREATEST",
         lambda a, b: _stats().randint(int(a), int(b) + 1),
@@ -106,7 +111,7 @@ class Distribution:
     shift : float
         Ticks that are added to each value.
     data : tuple of float
-        Of the family `data`, the times themselves, in whole ticks.
+        Of the family `data`, the times themselves, in ticks.
 
     Raises
     ------
@@ -195,8 +200,13 @@ class Distribution:
         if not 2 <= len(parts) <= 3:
             raise InputError("data wants FILE, and how many ticks its unit has")
         ticks = _real(parts[2]) if len(parts) == 3 else 1.0
-        times = np.floor(read_times(folder / parts[1]) * ticks + 0.5 + shift)
+        times = read_times(folder / parts[1]) * ticks + shift
         return cls("data", (), 0.0, tuple(times.tolist()))
+
+    @property
+    def whole_data(self) -> Floats:
+        """Of the family `data`, the times in whole ticks."""
+        return np.asarray(np.floor(np.array(self.data) + 0.5))
 
 
 def _real(word: str) -> float:

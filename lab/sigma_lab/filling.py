@@ -12,26 +12,65 @@ from pathlib import Path
 
 import numpy as np
 
-from .distributions import Distribution
+from .distributions import FAMILIES, Distribution
 from .errors import InputError, LabError
 from .tables import Table, discretize
 
-_TABLE = re.compile(r"^[ \t]*# table ([A-Za-z]\w*) ([^;\n]+);", re.M)
-_VALUES = re.compile(r"^([ \t]*)# values ([A-Za-z]\w*) (\S+) ([^;\n]+);[^\n]*\n", re.M)
+_TABLE = re.compile(
+    r"^[ \t]*#[ \t]*table[ \t]+([A-Za-z]\w*)[ \t]+([^;\n]*[^;\s])[ \t\r]*(;?)[^\n]*$", re.M
+)
+_VALUES = re.compile(
+    r"^([ \t]*)#[ \t]*values[ \t]+([A-Za-z]\w*)[ \t]+([^\s;]+)[ \t]+([^;\n]*[^;\s])[ \t]*;[^\n]*\n",
+    re.M,
+)
+_NO_COLUMN = re.compile(r"^[ \t]*#[ \t]*values[ \t]+[A-Za-z]\w*(?:[ \t]+[^\s;]+)?[ \t]*;", re.M)
+
+
+def _asked(text: str) -> list[re.Match[str]]:
+    """The placeholders of tables: comments that end in `;`, or name a distribution without it.
+
+    Raises
+    ------
+    InputError
+        If two ask for one table, or if values are asked for without their column.
+    """
+    known = (*FAMILIES, "data", "shifted")
+    made = [each for each in _TABLE.finditer(text) if each[3] or each[2].split()[0] in known]
+    names = [each[1] for each in made]
+    for at, found in enumerate(made):
+        if found[1] in names[:at]:
+            line = _line_of(text, found)
+            raise InputError(f"line {line}: a second placeholder for {found[1]}")
+    if wrong := _NO_COLUMN.search(text):
+        raise InputError(f"line {_line_of(text, wrong)}: values want ARRAY FILE COLUMN")
+    return made
+
+
+def _line_of(text: str, found: re.Match[str]) -> int:
+    return text.count("\n", 0, found.start()) + 1
+
+
+def _without_comments(text: str) -> str:
+    return re.sub(r"#[^\n]*", "", text)
 
 
 def _written(text: str, name: str) -> re.Match[str] | None:
-    """The table of this name that begins a line."""
-    return re.search(rf"^[ \t]*table[ \t]+{name}[ \t]*\{{([^}}]*)\}}", text, re.M)
+    """The table of this name that begins a line; a brace in a comment isn't its end."""
+    found = re.search(
+        rf"^[ \t]*table[ \t]+{name}[ \t]*\{{((?:[^}}#]|#[^\n]*)*)(?:\}}|\Z)", text, re.M
+    )
+    if found is not None and re.search(r"[^-\d:;\s]", _without_comments(found[1])):
+        raise InputError(f"line {_line_of(text, found)}: the table {name} has no end")
+    return found
 
 
 def unfilled(text: str) -> list[str]:
     """The placeholders whose tables or values are missing, stand for others (one row), or are of other numbers than the comment's."""
     names = []
-    for found in _TABLE.finditer(text):
-        name, words = found.groups()
+    for found in _asked(text):
+        name, words, _ = found.groups()
         written = _written(text, name)
-        if written is None or not _is_filled(written[1], words):
+        if written is None or not _is_filled(_without_comments(written[1]), words):
             names.append(name)
     for found in _VALUES.finditer(text):
         following = text[found.end() :].lstrip()
@@ -71,9 +110,9 @@ def fill(text: str, folder: Path | str = ".", rows: int = 200) -> Filled:
     tables: list[Table] = []
     notes: list[str] = []
     given = text
-    for found in _TABLE.finditer(given):
-        name, words = found.groups()
-        line = given.count("\n", 0, found.start()) + 1
+    for found in _asked(given):
+        name, words, _ = found.groups()
+        line = _line_of(given, found)
         try:
             table = discretize(Distribution.parse(words, folder), rows, name)
         except LabError as error:
@@ -102,8 +141,10 @@ def _past(text: str, notes: list[str]) -> int:
 
 def _fill_values(text: str, place: re.Match[str], folder: Path) -> tuple[str, str]:
     indent, name, file, column = place.groups()
-    line = text.count("\n", 0, place.start()) + 1
-    code = re.sub(r"#[^\n]*", "", text)
+    line = _line_of(text, place)
+    code, before = _without_comments(text), _without_comments(text[: place.start()])
+    if before.count("{") == before.count("}"):
+        raise InputError(f"line {line}: values of {name} are asked for outside of a vertex")
     declared = re.search(rf"var\s+{name}\s*\[\s*(\d+)\s*\]\s*:\s*(-?\d+)\s*\.\.\s*(-?\d+)", code)
     if declared is None:
         raise InputError(f"line {line}: no array {name} of numbers is declared")

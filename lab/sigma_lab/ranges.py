@@ -55,14 +55,14 @@ class Ranges:
     def of_model(
         cls, text: str, ticks: float, stated: Mapping[str, Stated] | None = None
     ) -> Ranges:
-        """Those of a model's text."""
-        from .parse import parse
+        """Those of a model's text.  Raises ModelError if it is none."""
+        from .model import Model
 
         declared = {
             each.name: (0.0, 1.0)
             if each.low is None or each.high is None
             else (float(each.low), float(each.high))
-            for each in parse(text).variables
+            for each in Model.from_text(text).graph.variables
         }
         return cls(declared, ticks, stated)
 

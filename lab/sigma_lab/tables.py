@@ -94,11 +94,12 @@ class Table:
 def _cells(asked: Distribution) -> tuple[Floats, Floats, Floats, float]:
     """Whole ticks or ranges of them: the mass, the mean and the width (ticks) of each, and what was cut off below 0."""
     if asked.family == "data":
-        values, counts = np.unique(np.array(asked.data), return_counts=True)
+        values, counts = np.unique(asked.whole_data, return_counts=True)
         gaps = np.gradient(values) if len(values) > 1 else np.ones(1)
         return counts / counts.sum(), values, np.maximum(gaps, 1), 0.0
     law, shift = asked.law, asked.shift
-    low, high = float(law.ppf(1e-11)), float(law.isf(1e-11))
+    low = float(law.ppf(1e-11))
+    high = max(low, float(law.isf(1e-11)))
     if asked.is_whole:
         return _whole_cells(law, shift, math.floor(low), math.ceil(high))
     edges = _edges(law, shift, low, high)
@@ -187,7 +188,7 @@ def discretize(asked: Distribution, rows: int = 200, name: str = "T") -> Table:
         values, np.bincount(inverse, bin_mass).astype(float), float((mass * means).sum())
     )
     if asked.family == "data" and is_exact:
-        whole = np.unique(np.array(asked.data), return_counts=True)[1]
+        whole = np.unique(asked.whole_data, return_counts=True)[1]
     else:
         whole = np.maximum(1, np.round(weights * TOTAL))
     table = Table(name, asked, values, whole.astype(np.int64), cut)
@@ -243,10 +244,11 @@ def _check(table: Table, rows: int) -> None:
         )
     if len(table.values) >= 0.9 * rows and rows < 1000 and asked.sd > 2:
         raise NoTable(f"{table.name}: in {len(table.values)} rows {got}: more rows are needed")
-    if asked.sd < 5 and not asked.is_whole:
-        raise NoTable(
-            f"{table.name}: in whole ticks {got}: take a finer tick, of which the deviation has 5"
-        )
+    is_whole = all(map(float.is_integer, asked.data)) if asked.data else asked.is_whole
+    # Rounding to whole ticks makes the deviation larger, and a tail that is cut makes it smaller.
+    if not is_whole and (asked.sd < 5 or table.sd > asked.sd):
+        how = ", of which the deviation has 5" if asked.sd < 5 else ""
+        raise NoTable(f"{table.name}: in whole ticks {got}: take a finer tick{how}")
     raise NoTable(
         f"{table.name}: in {len(table.values)} rows {got}: too much of it lies in times that are rare and long"
     )
