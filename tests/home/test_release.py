@@ -15,8 +15,9 @@ TESTS = "tests: 5 passed, 0 failed, 0 skipped"
 
 
 def write_script(path: Path, *lines: str) -> None:
-    """Write a script of sh."""
+    """Write a script of sh, in the place of a link to one of the machine's commands too."""
     path.parent.mkdir(parents=True, exist_ok=True)
+    path.unlink(missing_ok=True)
     path.write_text("\n".join(["#!/bin/sh", *lines]) + "\n")
     path.chmod(0o755)
 
