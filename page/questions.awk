@@ -16,6 +16,7 @@ function quoted(text) {
     cells = split($0, cell, " \\| ")
     sub(/^\| /, "", cell[1])
     title = cell[2]
+    sub(/ \|$/, "", title)
     sub(/ \(\[.*\)$/, "", title)
     sub(/; \[.*$/, "", title)
     files = split(cell[1], file, ", ")
