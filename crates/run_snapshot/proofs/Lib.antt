@@ -1,10 +1,3 @@
-pub mod Sooner
-pub mod DueSorted
-pub mod SortedWithoutAll
-pub mod SortedTakenOff
-pub mod InDueOrder
-pub mod AlikeSteps
-pub mod AlikeRuns
 pub mod OtherStops
 pub mod WholeRuns
 pub mod CellLists

@@ -15,8 +15,8 @@ use Rattle.model_core.specs.Saved.Resuming.{Resumes}
 use Rattle.run_snapshot.proofs.CellLists.{each_in_range, lengths-in_range, in_one_list-in_range, sizes-declared}
 use Rattle.model_core.specs.Saved.Cells.{watched_sizes, cut_up, in_one_list, cell_variables, variables_watched}
 use Rattle.run_laws.proofs.CutUp.{cut_up-in_one_list}
-use Rattle.run_snapshot.proofs.InDueOrder.{due_order-sorted, due_order-again}
-use Rattle.run_snapshot.proofs.DueSorted.{sorted-every}
+use Rattle.order_laws.proofs.InDueOrder.{due_order-sorted, due_order-again}
+use Rattle.order_laws.proofs.DueSorted.{sorted-every}
 use Rattle.run_snapshot.proofs.GoodMoments.{IsSound}
 
 each-count : (xs : List ℕ) (bound : ℕ) → ((k : ℕ) → slice_index_or xs k 0 ≤ bound) → AllByRecursion (λ n. n ≤ bound) xs

@@ -2,7 +2,7 @@
 use Rattle.std.proofs.Common.{◌≡◌, suc, ◌<◌, true, List, [], ◌∷◌, ◌++◌, length, Option, Some, None, option_map, unwrap_or, refl, sym, ap, ◌∙◌, subst, arith, append_assoc, append-nil}
 use Rattle.model_core.specs.Run.Pending.{Entry, EntryAndRest, next_entry, without_next}
 use Rattle.model_core.specs.Saved.DueOrder.{in_due_order}
-use Rattle.run_snapshot.proofs.InDueOrder.{length-sorted, sorted-front, sorted-none, due_order-sorted}
+use Rattle.order_laws.proofs.InDueOrder.{length-sorted, sorted-front, sorted-none, due_order-sorted}
 
 -- the next entry, as one among the entries
 record IsNext (p : List Entry) (e : Entry) (others : List Entry) : Type 0 where

@@ -1,24 +1,16 @@
 //! Laws of runs that are stopped and go on. The functions do nothing: what they ensure holds of all runs.
 
-ghost use Rattle.std.specs.Prelude.{◌≡◌, ℕ, ◌^◌, ◌<◌, ◌≤◌, ℤ, IsTrue, List, Option};
+ghost use Rattle.std.specs.Prelude.{◌≡◌, ℕ, ◌^◌, ◌<◌, ◌≤◌, ℤ, IsTrue, List};
 ghost use Rattle.model_core.specs.EventGraph.{EventGraph};
-ghost use Rattle.model_core.specs.Run.Step.{Configuration};
-ghost use Rattle.model_core.specs.Run.History.{Moment, allowed, look, look_from};
+ghost use Rattle.model_core.specs.Run.History.{Moment, allowed, look};
 ghost use Rattle.model_core.specs.Run.Machine.{Going};
 ghost use Rattle.model_core.specs.Text.Spellable.{IsSpellable};
 ghost use Rattle.model_core.specs.Static.OwnRules.{KeepsStaticRules};
-ghost use Rattle.model_core.specs.Saved.GoingOn.{Alike, GoesOn};
+ghost use Rattle.model_core.specs.Saved.GoingOn.{GoesOn};
 ghost use Rattle.model_core.specs.Saved.Resuming.{Resumes};
 
+use order_laws::due_order_decides;
 use run_laws::runs_go_on;
-
-/// Of the order of scheduling only the order among events that are due alike counts.
-pub fn due_order_decides()
-    ensures { (g : EventGraph) (seed until n : ℕ) (noted : Option (List (List ℤ)))
-        (c d : Configuration) → Alike c d
-        → look_from g seed until n (record { now = c; noted = noted })
-        ≡ look_from g seed until n (record { now = d; noted = noted }) }
-{}
 
 /// A run that is going on after n steps can be stopped there: from the moment reached it goes on as the whole run
 /// does, up to any stop time that isn't before its clock.

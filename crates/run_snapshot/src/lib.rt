@@ -6,7 +6,7 @@ mod resumed;
 mod resuming;
 mod saving;
 
-pub use laws::{due_order_decides, saved_runs_resume, stopped_runs_go_on};
+pub use laws::{saved_runs_resume, stopped_runs_go_on};
 pub use resumed::{Resumed, resume};
 pub use saving::save;
 pub use snapshot_text::{

@@ -12,7 +12,6 @@ pub mod NeedsCollected
 pub mod LeftLists
 pub mod LeftInSteps
 pub mod HeldByAll
-pub mod RenumberedValues
 pub mod StoresLeft
 pub mod ValuesLeft
 pub mod MaskedWords

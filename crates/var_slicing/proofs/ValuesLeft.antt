@@ -12,7 +12,7 @@ use Rattle.model_core.specs.Rules.Slice.{expression_renumbered, items_where_mark
 use Rattle.model_core.proofs.Alongside.{Alongside, both_go, alongside-equal, bind-alongside, bind-alongside-same, bind-alongside-left}
 use Rattle.mark_laws.proofs.Marks.{Marked}
 use Rattle.model_core.proofs.EachOne.{every-map}
-use Rattle.var_slicing.proofs.RenumberedValues.{HoldsSame, value-renumbered}
+use Rattle.alike_laws.proofs.RenumberedValues.{HoldsSame, value-renumbered}
 use Rattle.var_slicing.proofs.StoresLeft.{place_left, stores_left, Storable, StateLeft, variable-left, cells-left, stores-left}
 
 -- an expression reads marked variables alone

@@ -171,6 +171,9 @@ def is_equation_of(line: str, name: str) -> bool:
     return all(sign in line for sign in name.split("◌") if sign)
 
 
+MUTUAL = ("mutual", "unfoldable mutual")
+
+
 class Definitions(Reader):
     """Reads a module of definitions."""
 
@@ -197,8 +200,9 @@ class Definitions(Reader):
                 self.block.lines += 1
             else:
                 self.comments += 1
-        elif line.startswith("module _"):
-            self.modules.append((self.begin_block(f"module at {number}", "module", whole), indent))
+        elif line.startswith("module _") or line in MUTUAL:
+            kind = "mutual" if line in MUTUAL else "module"
+            self.modules.append((self.begin_block(f"{kind} at {number}", "module", whole), indent))
             self.block = None
         elif re.match("(infix[lr]?|unfolding) ", line):
             named = self.sources.block_of.get((self.path, line.split()[-1]))
@@ -215,12 +219,14 @@ class Definitions(Reader):
         else:
             self.take_more(number, whole, line, indent)
 
-    @staticmethod
-    def begins(line: str, indent: int) -> bool:
+    def begins(self, line: str, indent: int) -> bool:
         """Answer whether a line begins a definition."""
         if re.match(r"(abbrev|unfoldable) |(pub )?(data|record) [A-Z]", line):
             return True
-        return indent == 0 and re.match("(pub )?[^ ]+ : ", line) is not None
+        outer, outer_indent = self.modules[-1] if self.modules else (None, -2)
+        if outer and not outer.name.startswith("mutual"):
+            return False
+        return indent == outer_indent + 2 and re.match("(pub )?[^ ]+ : ", line) is not None
 
     def take_more(self, number: int, whole: str, line: str, indent: int) -> None:
         """Read a further line of a definition."""
@@ -231,7 +237,7 @@ class Definitions(Reader):
             if self.block.kind == "data" and (variant := re.match("[^ ]+ :", line)):
                 self.sources.block_of[self.path, variant[0][:-2]] = self.block
             self.block.add_line(whole)
-        elif line == "}":
+        elif line in ("}", "]"):
             self.block.add_line(whole)
         elif is_equation_of(line, self.block.name):
             self.block.add_unit(whole)

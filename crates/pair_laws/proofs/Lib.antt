@@ -1,0 +1,12 @@
+pub mod EventEffects
+pub mod EffectsInDueOrder
+pub mod TakenAway
+pub mod ExchangedEffects
+pub mod ExchangedEdges
+pub mod SeenEffects
+pub mod PairedRuns
+pub mod AgreeingEdges
+pub mod LinkedPairs
+pub mod MetConfigurations
+pub mod EdgesOfNow
+pub mod FreeCancels

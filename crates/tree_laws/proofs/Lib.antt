@@ -1,0 +1,17 @@
+pub mod WholeNumbers
+pub mod Gives
+pub mod SameSums
+pub mod AddedSums
+pub mod Divisors
+pub mod Intervals
+pub mod EndsHold
+pub mod SettledSums
+pub mod CasesOfTrees
+pub mod JoinedTrees
+pub mod Floors
+pub mod ConditionTrees
+pub mod EnoughSteps
+pub mod NotedChecks
+pub mod ValuedTrees
+pub mod BegunVertices
+pub mod AgreeingTrees

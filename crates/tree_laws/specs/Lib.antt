@@ -1,0 +1,14 @@
+pub mod LinearSums
+pub mod SumValues
+pub mod Limits
+pub mod SumEnds
+pub mod Meaning
+pub mod SumSettled
+pub mod Trees
+pub mod TreesJoined
+pub mod TreeConditions
+pub mod Valued
+pub mod ChecksHold
+pub mod ValuesAgree
+pub mod BeginOfVertex
+pub mod Agreeing
