@@ -1,4 +1,4 @@
 pub mod DeclaredFrom
-pub mod DeclaredAlike
+pub mod DeclarationsKept
 pub mod RoundLaws
 pub mod NormalLaws

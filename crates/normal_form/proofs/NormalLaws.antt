@@ -5,7 +5,7 @@ use Rattle.model_core.specs.Run.Same.{Same}
 use Rattle.model_core.specs.Static.Reading.{IsValid}
 use Rattle.model_core.specs.Rules.SameGraph.{same_graph}
 use Rattle.model_core.proofs.SameGraphs.{graphs_decide}
-use Rattle.alike_laws.specs.Declared.{Declared}
+use Rattle.alike_laws.specs.DeclaredAlike.{DeclaredAlike}
 use Rattle.alike_laws.proofs.AlikeModels.{declared_refl, declared_trans}
 use Rattle.normal_form.specs.Normal.{Round, NormalWithin, no_round_left, left_as_it_is, after_a_round}
 use Rattle.normal_form.proofs.RoundLaws.{Ends, EndsOnce, KeepsValid, KeepsSame}
@@ -40,7 +40,7 @@ normal-same keeps same itself composes (suc rounds) g _ valid (left_as_it_is a) 
 normal-same keeps same itself composes (suc rounds) g h valid (after_a_round next a differs later) =
     composes g next h (same g next valid a) (normal-same keeps same itself composes rounds next h (keeps g next valid a) later)
 
-pub normal-declared : KeepsValid Round → ((g h : EventGraph) → IsValid g → Round g h → Declared g h) → (rounds : ℕ) (g h : EventGraph) → IsValid g → NormalWithin rounds g h → Declared g h
+pub normal-declared : KeepsValid Round → ((g h : EventGraph) → IsValid g → Round g h → DeclaredAlike g h) → (rounds : ℕ) (g h : EventGraph) → IsValid g → NormalWithin rounds g h → DeclaredAlike g h
 normal-declared keeps declared zero g _ valid no_round_left = declared_refl g
 normal-declared keeps declared (suc rounds) g _ valid (left_as_it_is a) = declared_refl g
 normal-declared keeps declared (suc rounds) g h valid (after_a_round next a differs later) =

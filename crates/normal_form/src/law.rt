@@ -6,8 +6,8 @@ ghost use Rattle.model_core.specs.EventGraph.{EventGraph};
 ghost use Rattle.model_core.specs.Run.Same.{Same};
 ghost use Rattle.model_core.specs.Rules.SameGraph.{same_graph};
 ghost use Rattle.model_core.specs.Static.Reading.{IsValid};
-ghost use Rattle.alike_laws.specs.Declared.{Declared};
-ghost use Rattle.alike_laws.specs.Alike.{Alike};
+ghost use Rattle.alike_laws.specs.DeclaredAlike.{DeclaredAlike};
+ghost use Rattle.alike_laws.specs.AreAlike.{AreAlike};
 ghost use Rattle.alike_laws.specs.Nameless.{nameless};
 ghost use Rattle.normal_form.specs.Normal.{Round, Normal};
 
@@ -24,7 +24,7 @@ pub fn rounds_keep_the_meaning()
     ensures determined { (g h k : EventGraph) → Round g h → Round g k → h ≡ k }
     ensures valid { (g h : EventGraph) → IsValid g → Round g h → IsValid h }
     ensures same { (g h : EventGraph) → IsValid g → Round g h → Same g h }
-    ensures declared { (g h : EventGraph) → IsValid g → Round g h → Declared g h }
+    ensures declared { (g h : EventGraph) → IsValid g → Round g h → DeclaredAlike g h }
 {
     narrowed_models_mean_the_same();
     strategies_keep_the_meaning();
@@ -41,7 +41,7 @@ pub fn normal_forms_keep_the_meaning()
     ensures determined { (g h k : EventGraph) → Normal g h → Normal g k → h ≡ k }
     ensures valid { (g h : EventGraph) → IsValid g → Normal g h → IsValid h }
     ensures same { (g h : EventGraph) → IsValid g → Normal g h → Same g h }
-    ensures declared { (g h : EventGraph) → IsValid g → Normal g h → Declared g h }
+    ensures declared { (g h : EventGraph) → IsValid g → Normal g h → DeclaredAlike g h }
 {
     rounds_keep_the_meaning();
     sameness_is_a_preorder();
@@ -50,7 +50,7 @@ pub fn normal_forms_keep_the_meaning()
 /// Valid models that declare the same are alike if their normal forms are equal but for names.
 pub fn models_with_one_normal_form_are_alike()
     ensures { (g h one other : EventGraph) → IsValid g → IsValid h → Normal g one → Normal h other
-        → same_graph (nameless one) (nameless other) ≡ true → Declared g h → Alike g h }
+        → same_graph (nameless one) (nameless other) ≡ true → DeclaredAlike g h → AreAlike g h }
 {
     normal_forms_keep_the_meaning();
     meaning_alike_is_an_equivalence();

@@ -1,5 +1,5 @@
 use Rattle.normal_form.proofs.DeclaredFrom.{round-declares}
-use Rattle.normal_form.proofs.DeclaredAlike.{same-declares}
+use Rattle.normal_form.proofs.DeclarationsKept.{same-declares}
 use Rattle.normal_form.proofs.RoundLaws.{Reduces, Ends, EndsOnce, KeepsValid, KeepsSame, round-ends, round-once, round-valid, round-same}
 use Rattle.normal_form.proofs.law.rounds_keep_the_meaning.Goals as goal
 

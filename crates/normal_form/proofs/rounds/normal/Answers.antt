@@ -26,7 +26,7 @@ loop-preserved c =
 
 pub returns : goal.returns
 returns c = elim c.loop-test.branch [
-    else-loop-test w ↦
+  | else-loop-test w ↦
       let ended = w.loop-test.false in
       let most = c.loop.auto.counter-end in
       subst (λ m. Normal (graph_of c.args.model) (graph_of m)) (sym w.form-is)
@@ -39,4 +39,4 @@ returns c = elim c.loop-test.branch [
       (c.loop.invariant.leads (graph_of w.in_ok-form.form)
       (subst (λ n. NormalWithin n before (graph_of w.in_ok-form.form)) (one-fewer c.loop.counter w.loop-test.true)
       (subst (λ g. NormalWithin (suc (ROUNDS_MAX - (c.loop.counter + 1))) before g) same (left_as_it_is (subst (Round before) (sym same) round)))))
-  ]
+]

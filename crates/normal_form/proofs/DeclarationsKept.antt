@@ -11,7 +11,7 @@ use Rattle.model_core.specs.Run.State.{variable_at, no_variable}
 use Rattle.model_core.specs.Run.Step.{vertex_at, no_vertex}
 use Rattle.model_core.specs.Run.Same.{WatchedName, VariableNamed, VertexNamed, watched_name_of, parameter, Same}
 use Rattle.model_core.specs.Static.OwnRules.{IsWatchable, IsParameter, KeepsVertex, KeepsParts, parameters_of}
-use Rattle.alike_laws.specs.Declared.{Shape, shape_at, Declared}
+use Rattle.alike_laws.specs.DeclaredAlike.{Shape, shape_at, DeclaredAlike}
 use Rattle.static_laws.proofs.StaticTwins.NumberedPlaces.{distinct_front}
 use Rattle.normal_form.proofs.DeclaredFrom.{DeclaredFrom}
 
@@ -101,7 +101,7 @@ variables-apart g apart =
     let tables = map (λ (x : WeightTable). x.name) g.tables in
     distinct_front variables tables (distinct_front (variables ++ tables) (map (λ (x : EventVertex). x.name) g.vertices) apart)
 
-pub same-declares : (g h : EventGraph) → DeclaredFrom g.variables h.variables → KeepsParts g → KeepsParts h → Same g h → Declared g h
+pub same-declares : (g h : EventGraph) → DeclaredFrom g.variables h.variables → KeepsParts g → KeepsParts h → Same g h → DeclaredAlike g h
 same-declares g h from parts left same =
     let apart = variables-apart g parts.declared_once in
     record {
