@@ -293,15 +293,22 @@ def test_a_list_of_an_older_form(home: Home) -> None:
     assert set(home.files()) == {LIST}
 
 
-@pytest.mark.parametrize("name", ["line\nfeed", "blank at its end ", "star*[a]", "back\\slash"])
+@pytest.mark.parametrize("name", ["line\nfeed", "blank at its end ", "star*[a]", "back\\new \\c"])
 def test_odd_prefixes(home: Home, name: str) -> None:
-    """They install and uninstall as others do."""
+    """They install and uninstall as others do, and are named as they are."""
     home.prefix = home.folder / name
-    assert home.install().status == 0
+    answer = home.install()
+    assert answer.status == 0
+    assert f"install: sigma is in {home.prefix}/bin, and".encode() in answer.output
     there = home.files()
     there.pop(LIST)
     assert listed(home) == there
-    assert home.uninstall().status == 0
+    assert home.run(home.prefix / "bin/sigma", "--which").output.startswith(
+        f"program {home.prefix}/lib/sigma/sigma\n".encode()
+    )
+    answer = home.uninstall()
+    assert answer.status == 0
+    assert answer.output == f"uninstall: removed all that was installed in {home.prefix}\n".encode()
     assert not home.prefix.exists()
 
 
