@@ -4,6 +4,7 @@
 
 mod count;
 mod fault;
+mod filling;
 mod held;
 mod limits;
 mod list;
@@ -26,6 +27,7 @@ mod taking;
 mod text;
 
 pub use fault::FaultKind;
+pub use filling::append;
 pub use held::HeldValue;
 pub use limits::{
     ARRAY_CELLS_MAX, ARRAY_CELLS_MAX_VERSION_1, CELLS_MAX, CHANGES_MAX, DOCUMENT_MAX, EDGES_MAX,

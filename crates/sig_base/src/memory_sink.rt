@@ -4,6 +4,7 @@ ghost use Rattle.std.specs.Prelude.{◌≡◌, ◌<◌, ◌≤◌, ◌+◌, ◌-
 ghost use Rattle.sig_base.specs.Faults.{HasRisen, last_count};
 
 use crate::count::one_more;
+use crate::filling::append;
 use crate::list::List;
 use crate::no_memory::{Failed, NoMemory};
 use crate::sink::Sink;
@@ -158,14 +159,4 @@ impl Sink for MemorySink {
         self.settled = true;
         Ok(())
     }
-}
-
-/// Adds a piece for which the vector has room.
-fn append(bytes: &mut Vec<u8>, piece: &[u8])
-    requires { vec_len bytes.old + length piece.now ≤ vec_capacity bytes.old }
-    ensures items { bytes.new.items ≡ bytes.old.items ++ piece.now }
-    ensures len { vec_len bytes.new ≡ vec_len bytes.old + length piece.now }
-    ensures capacity { vec_capacity bytes.old ≤ vec_capacity bytes.new }
-{
-    bytes.extend_from_slice(piece).unwrap();
 }

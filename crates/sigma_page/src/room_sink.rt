@@ -3,7 +3,7 @@
 ghost use Rattle.std.specs.Prelude.{◌≡◌, ◌<◌, ◌≤◌, ◌+◌, ◌-◌, ◌++◌, ℕ, [], false, true, Some, vec_len, vec_capacity, length, min, take, IsOk, IfOk, OnOk, OnErr};
 ghost use Rattle.sig_base.specs.Faults.{HasRisen};
 
-use sig_base::{Failed, NoMemory, Sink};
+use sig_base::{Failed, NoMemory, Sink, append};
 use std::alloc::Global;
 use std::marker::{Brand, PhantomData};
 
@@ -95,14 +95,4 @@ impl<R: Room> Sink for RoomSink<R> {
         self.settled = true;
         Ok(())
     }
-}
-
-/// Adds a piece for which the vector has room.
-fn append(bytes: &mut Vec<u8>, piece: &[u8])
-    requires { vec_len bytes.old + length piece.now ≤ vec_capacity bytes.old }
-    ensures items { bytes.new.items ≡ bytes.old.items ++ piece.now }
-    ensures len { vec_len bytes.new ≡ vec_len bytes.old + length piece.now }
-    ensures capacity { vec_capacity bytes.old ≤ vec_capacity bytes.new }
-{
-    bytes.extend_from_slice(piece).unwrap();
 }
