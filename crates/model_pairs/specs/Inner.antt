@@ -1,0 +1,2 @@
+pub mod BothSeen
+pub mod WrittenRuns

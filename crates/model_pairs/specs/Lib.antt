@@ -1,0 +1,4 @@
+pub mod Inner
+pub mod DeclaredApart
+pub mod LinesOfTexts
+pub mod RunsApart
