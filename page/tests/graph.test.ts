@@ -6,6 +6,7 @@ import { grid_of, Gutters } from "../src/graph/grid";
 import { groups_of } from "../src/graph/groups";
 import { place_labels } from "../src/graph/labels";
 import { Box, lay_out } from "../src/graph/layout";
+import { split } from "../src/graph/parts";
 import { around, crossings, direct } from "../src/graph/routes";
 import { Scene } from "../src/graph/scene";
 import { broken, change_lines, delay_in_words, Measure } from "../src/graph/shapes";
@@ -177,4 +178,26 @@ test("two hundred events are laid out whole, and no two lie on each other", () =
 test("a label that nothing hinders stands at the right of a line that leads down, at its middle", () => {
   const samples = Array.from({ length: 11 }, (_, i) => ({ x: 0, y: i * 10 })), [place] = place_labels([{ line: 0, samples, width: 40, height: 15 }], [], [samples]);
   assert.deepEqual(place, { x: 26, y: 50 });
+});
+
+test("parts that are built alike are laid out once, and each event lies in its own group's place", () => {
+  // Twenty rings of five events each.
+  const rings = 20, nodes = Array.from({ length: 5 * rings }, () => ({ width: 90, height: 40 }));
+  const edges = nodes.map((_, i) => ({ from: i, to: i % 5 === 4 ? i - 4 : i + 1, width: 0, height: 0 })), { parts, join } = split({ nodes, edges, sideways: false, aspect: 1.6 });
+  assert.ok(parts.length <= 3, `${parts.length} parts`);
+  const layout = join(parts.map(lay_out)), boxes = layout.nodes.map(at => ({ ...at, width: 90, height: 40 }));
+  assert.equal(layout.groups.flat().length, nodes.length);
+  boxes.forEach((box, i) => boxes.forEach((other, k) => assert.ok(k <= i || !overlap(box, other), `${i} on ${k}`)));
+});
+
+test("labels of a large graph are placed group by group, and stay", () => {
+  const scene = scene_of(readFileSync("models/plant.sigma", "utf8").replace(/^#.*\n/gm, ""));
+  assert.ok(scene.lines.every(line => !line.label));
+  const first = scene.lines.find(line => line.bundle.from === "START20")!;
+  scene.name_lines([first]);
+  const named = new Map(scene.lines.filter(line => line.label).map(line => [line.key, line.label]));
+  assert.ok(named.has(first.key) && named.size < scene.lines.length / 4);
+  scene.name_lines(scene.lines);
+  for (const line of scene.lines) if (named.has(line.key)) assert.deepEqual(line.label, named.get(line.key));
+  assert.ok(scene.lines.every(line => line.label || !line.bundle.height));
 });

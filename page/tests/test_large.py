@@ -5,6 +5,7 @@ from __future__ import annotations
 import pytest
 from conftest import PAGE
 from drive.browser import Browser
+from large import tangle
 
 WHEEL = (
     "document.querySelector('.stage-pane .graph').dispatchEvent(new WheelEvent('wheel',"
@@ -55,3 +56,19 @@ def test_a_press_meets_what_is_seen(page: Browser) -> None:
     page.click_at((place[0], place[1] - 40))
     assert page.js("return sigma.app.picked?.name") == "START20"
     assert page.js(f"return !{MOVING} && {PLACED}")
+
+
+def test_a_long_layout_tells_how_far_it_is_and_can_be_stopped(page: Browser) -> None:
+    """After Stop the events stand in rows, and the page can be used."""
+    page.js("sigma.store.open({ ...sigma.store.doc, text: values[0] }, 'Open')", tangle(1900, 3800))
+    page.until("!document.querySelector('.stage-pane .laying-out').hidden", 60)
+    assert "1,900 events" in page.js("return document.querySelector('.laying-out').textContent")
+    page.js("document.querySelector('.stage-pane .laying-out button').click()")
+    page.until("!sigma.app.canvas.busy && sigma.app.canvas.scene.nodes.size === 1900", 60)
+    assert page.js(
+        "return sigma.app.canvas.scene.groups.length === 0"
+        " && document.querySelector('.stage-pane .laying-out').hidden"
+    )
+    page.js("sigma.app.canvas.seek('E1000', true)")
+    page.click('.stage-pane [data-part="event:E1000"] .body')
+    assert page.js("return sigma.app.picked?.name") == "E1000"

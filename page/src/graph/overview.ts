@@ -7,6 +7,8 @@ import { Transform } from "./view";
 export interface Seen { name: string; members: readonly string[]; box: Box; pending: number; lit: string; selected: boolean }
 export interface Joined { from: number; to: number; count: number }
 export const joined_width = (count: number): number => Math.min(4, 1 + Math.log2(count));
+/** The more lines there are, the fainter they are, so that the boxes are seen. */
+export const joined_alpha = (lines: number): number => Math.max(0.12, Math.min(0.5, 150 / lines));
 /** A group in the units of the screen: the box by its corner, and its words. */
 export interface GroupView extends Box { group: Seen; corner: number; lit: boolean; selected: boolean; texts: { words: string; x: number; y: number; kind: "title" | "waits" | "says" }[] }
 
@@ -52,7 +54,7 @@ export class Overview {
       const a = groups[from].box, b = groups[to].box;
       return s("path", { class: "joined", d: `M${a.x * at.k} ${a.y * at.k}L${b.x * at.k} ${b.y * at.k}`, "stroke-width": joined_width(count) }, s("title", {}, `${groups[from].name} … ${groups[to].name}: ${count}`));
     });
-    this.element.replaceChildren(s("g", {}, ...lines), s("g", {}, ...group_views(groups, at.k).map(drawn_group)));
+    this.element.replaceChildren(s("g", { "stroke-opacity": joined_alpha(lines.length) }, ...lines), s("g", {}, ...group_views(groups, at.k).map(drawn_group)));
   }
 }
 

@@ -3,7 +3,7 @@
 import { h } from "../ui/dom";
 import { EYE, far_size, label_place, START } from "./drawing";
 import { Box } from "./layout";
-import { group_views, Joined, joined_width, Seen } from "./overview";
+import { group_views, Joined, joined_alpha, joined_width, Seen } from "./overview";
 import { head } from "./routes";
 import { Line, Node } from "./scene";
 import { HEAD, LABEL, LINE, NodeShape } from "./shapes";
@@ -90,7 +90,7 @@ export class Painter {
   private overview(groups: readonly Seen[], joined: readonly Joined[], at: Transform): void {
     const { pen, colours, sharp } = this, width = this.element.width / sharp, height = this.element.height / sharp;
     pen.strokeStyle = colours.edge;
-    pen.globalAlpha = 0.5;
+    pen.globalAlpha = joined_alpha(joined.length);
     for (const { from, to, count } of joined) {
       const a = groups[from].box, b = groups[to].box;
       pen.lineWidth = joined_width(count);

@@ -14,6 +14,10 @@ export interface Group { name: string; members: string[] }
 interface Known { way: Way; from: Point; to: Point }
 
 const NEAR = 1.01, APART = 8;
+/** Up to so many events all is drawn at once; of more, what is seen. */
+export const ALL_AT_ONCE = 120;
+/** What is further off than this hinders no label. */
+const REACH = 160;
 const is_at = (a: Point, b: Point): boolean => Math.abs(a.x - b.x) <= NEAR && Math.abs(a.y - b.y) <= NEAR;
 const touch = (a: Box, b: Box, by: number): boolean =>
   Math.abs(a.x - b.x) < (a.width + b.width) / 2 + by && Math.abs(a.y - b.y) < (a.height + b.height) / 2 + by;
@@ -26,7 +30,8 @@ export class Scene {
   private known = new Map<string, Known>();
   private shapes: NodeShape[] = [];
   private bundles: Bundle[] = [];
-  private has_labels = true;
+  /** Whether labels are placed only once their lines are drawn. */
+  private is_late = false;
   private had_places = false;
   private is_fresh = false;
   /** The arrows between two events, and the group of each event: looked up for each line. */
@@ -88,13 +93,13 @@ export class Scene {
     for (const bundle of this.bundles) this.pairs.set(pair_of(bundle.from, bundle.target), [...this.pairs.get(pair_of(bundle.from, bundle.target)) ?? [], bundle]);
     const labels = new Map(this.lines.map(line => [line.key, line]));
     this.lines = this.bundles.map((bundle, number) => this.line(bundle, number));
-    this.has_labels = this.nodes.size <= 120;
+    this.is_late = this.nodes.size > ALL_AT_ONCE;
     // A label stays where it was while its line does.
     for (const line of this.lines) {
       const old = labels.get(line.key);
       if (old?.label && old.route.path === line.route.path && old.label.width === line.bundle.width && old.label.height === line.bundle.height) line.label = old.label;
     }
-    if (this.has_labels) this.place_labels(this.lines.filter(line => !line.label));
+    if (!this.is_late) this.place_labels(this.lines.filter(line => !line.label));
   }
 
   private remember(layout: Layout): void {
@@ -176,16 +181,21 @@ export class Scene {
 
   /** Places the labels of these lines; all other labels stay. */
   place_labels(lines: readonly Line[] = this.lines): void {
-    this.has_labels = true;
     // The labels of lines between groups are shown only when they are asked for, so they keep off nothing.
     for (const line of lines) if (line.across && line.bundle.height > 0) line.label = { ...aside(line), width: line.bundle.width, height: line.bundle.height };
     const named = lines.filter(line => line.bundle.height > 0 && !line.across), asked = new Set(named);
     const wanted = named.map((line): Wanted => ({ line: line.number, samples: line.route.samples, width: line.bundle.width, height: line.bundle.height, near: this.label_near(line) }));
-    const fixed = this.lines.flatMap(line => (line.label && !line.across && !asked.has(line) ? [line.label] : []));
-    const places = place_labels(wanted, [...this.nodes.values()].map(node => node.box), this.lines.map(line => (line.across ? [] : line.route.samples)), fixed);
+    const around = bounds_of(named.flatMap(line => corners(line.bounds))), is_near = (box: Box): boolean => touch(box, around, REACH);
+    const fixed = this.lines.flatMap(line => (line.label && !line.across && !asked.has(line) && is_near(line.label) ? [line.label] : []));
+    const places = place_labels(wanted, [...this.nodes.values()].map(node => node.box).filter(is_near), this.lines.map(line => (line.across || !is_near(line.bounds) ? [] : line.route.samples)), fixed);
     named.forEach((line, i) => { line.label = { ...places[i], width: line.bundle.width, height: line.bundle.height }; });
   }
-  get lacks_labels(): boolean { return !this.has_labels; }
+  /** Places the labels of lines that are to be drawn, with all of their groups, where that hasn't been done yet. */
+  name_lines(seen: readonly Line[]): void {
+    if (!this.is_late) return;
+    const bare = seen.filter(line => !line.label && line.bundle.height > 0), group = (line: Line): number | undefined => this.group_of.get(line.bundle.from);
+    for (const each of new Set(bare.map(group))) this.place_labels(each === undefined ? bare.filter(line => group(line) === undefined) : this.lines.filter(line => !line.label && group(line) === each));
+  }
 
   private label_near({ bundle, route }: Line): Point | undefined {
     if (bundle.from === bundle.target) {
@@ -202,12 +212,13 @@ export class Scene {
       if (node) node.box = { ...node.box, x: node.box.x + by.x, y: node.box.y + by.y };
     }
     const touched = this.lines.filter(line => names.has(line.bundle.from) || names.has(line.bundle.target));
+    const named = touched.filter(line => line.label || !this.is_late);
     for (const line of touched) {
       line.route = this.route(line.bundle);
       line.bounds = bounds_of(line.route.samples);
       line.label = null;
     }
-    if (this.has_labels) this.place_labels(touched);
+    this.place_labels(named);
     return touched;
   }
 
@@ -217,7 +228,6 @@ export class Scene {
 
   bounds(): Box {
     if (!this.nodes.size) return { x: 0, y: 0, width: 0, height: 0 };
-    const corners = (box: Box): Point[] => [{ x: box.x - box.width / 2, y: box.y - box.height / 2 }, { x: box.x + box.width / 2, y: box.y + box.height / 2 }];
     return bounds_of([
       ...[...this.nodes.values()].flatMap(node => corners(node.box)),
       ...this.lines.flatMap(line => [...corners(line.bounds), ...(line.label ? corners(line.label) : [])]),
@@ -231,6 +241,7 @@ function aside({ route, bundle }: Line): Point {
   const { tip, toward } = route;
   return { x: tip.x - toward.x * (40 + bundle.width / 2) - Math.abs(toward.y) * (bundle.width / 2 + 8), y: tip.y - toward.y * (20 + bundle.height / 2) - Math.abs(toward.x) * (bundle.height / 2 + 6) };
 }
+const corners = (box: Box): Point[] => [{ x: box.x - box.width / 2, y: box.y - box.height / 2 }, { x: box.x + box.width / 2, y: box.y + box.height / 2 }];
 const pair_of = (from: string, target: string): string => `${from} ${target}`;
 export const key_of = ({ from, target, drawn }: Bundle): string => `${from} ${target} ${drawn}`;
 

@@ -2,7 +2,7 @@
 import { App } from "../app";
 import { ExperimentsTab } from "../experiments/experiments_tab";
 import { Inspector } from "../forms/inspector";
-import type { LayOut } from "../graph/canvas";
+import type { LayOut } from "../graph/laying";
 import { ReduceTab } from "../reduce/reduce_tab";
 import { EMPTY } from "../store/store";
 import { read_places, write_places } from "../text/edits";

@@ -1,7 +1,7 @@
 // The gallery: each example as a picture of its graph, with the question that it answers.
 import { App } from "../app";
 import { Canvas } from "../graph/canvas";
-import type { LayOut } from "../graph/canvas";
+import type { LayOut } from "../graph/laying";
 import { read_model } from "../text/model";
 import { h } from "../ui/dom";
 import { dialog } from "../ui/menu";
