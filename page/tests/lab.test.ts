@@ -61,8 +61,9 @@ async function compare(texts: Readonly<Record<string, string>>, item: string, co
     near(made[k].mean, row.more, `${what}, mean`);
     near(made[k].from, row.low, `${what}, from`);
     near(made[k].to, row.high, `${what}, to`);
-    near(p_value(made[k]), row.p, `${what}, p`);
-    near(p[k], row.p_adjusted, `${what}, Holm's p`);
+    // P-values are small numbers, so they are compared digit by digit.
+    near(Math.log(p_value(made[k])), row.p && Math.log(row.p), `${what}, p`);
+    near(Math.log(p[k]), row.p_adjusted && Math.log(row.p_adjusted), `${what}, Holm's p`);
   });
   return rows;
 }

@@ -5,7 +5,9 @@ import { refusal_in_words } from "../src/text/refusals";
 import { judge } from "../src/store/store";
 import { BadLink, link_of, model_in_link, MOST_TEXT, packed, unpacked } from "../src/shell/links";
 import { doc_of, drafts_of, file_name } from "../src/shell/kept";
-import { clock_of } from "../src/run/clock";
+import { clock_of, seconds_of } from "../src/run/clock";
+import { read_notes, title_of_item, unit_of_item, write_notes } from "../src/text/notes";
+import { apply_edits, read_places, rename, write_places } from "../src/text/edits";
 import { BadDistribution, mean_of, rows_as_text, rows_of_text, table_of } from "../src/text/distributions";
 import { free_streams, TEMPLATES, with_template } from "../src/text/templates";
 import { meetings } from "../src/reduce/meetings";
@@ -73,8 +75,21 @@ test("what the browser kept is checked when it is read", () => {
 
 test("times as a clock has them", () => {
   const minutes = clock_of({ unit: "minute", opens: "8:30" });
+  assert.deepEqual([seconds_of("9"), seconds_of("09:30:15"), seconds_of("noon")], [32400, 34215, null]);
   assert.deepEqual([minutes(0), minutes(95), minutes(24 * 60)], ["8:30", "10:05", "day 2, 8:30"]);
   assert.deepEqual([clock_of({ unit: "", opens: "" })(1200), clock_of({ unit: "second", opens: "" })(61), clock_of({ unit: "day", opens: "" })(3)], ["1,200", "0:01:01", "day 4"]);
+});
+
+test("what a tick is and what items are called stands in the text, and changes no model", async () => {
+  const text = example("bank"), notes = { unit: "minute", opens: "9:00", items: { QUEUE: { title: "customers waiting", unit: "customers" }, IDLE: { title: "", unit: "tellers" } } };
+  const placed = write_places(text, { OPEN: { x: 3, y: 4 } }), made = write_notes(placed, notes), [before, after] = await Promise.all([judge(engine, text, 0), judge(engine, made, 0)]);
+  assert.deepEqual(read_notes(made), notes);
+  assert.ok(before.state === "accepted" && after.state === "accepted" && before.model.text === after.model.text);
+  assert.deepEqual(read_places(made), { OPEN: { x: 3, y: 4 } });
+  assert.deepEqual(read_notes(write_places(made, { OPEN: { x: 9, y: 9 } })), notes);
+  assert.equal(write_notes(made, { unit: "", opens: "", items: {} }), placed);
+  assert.deepEqual([title_of_item(notes, "QUEUE"), title_of_item(notes, "GAP"), title_of_item(notes, "QUEUE[2]"), unit_of_item(notes, "IDLE")], ["customers waiting (QUEUE)", "GAP", "customers waiting [2] (QUEUE[2])", "tellers"]);
+  assert.equal(read_notes(apply_edits(made, rename(made, "QUEUE", "LINE"))).items.LINE.title, "customers waiting");
 });
 
 test("tables have the mean of their distribution", () => {

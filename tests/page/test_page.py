@@ -49,6 +49,12 @@ def test_plain_functions(program: Program) -> None:
     assert counts and int(counts[-1]) > 0, output[-SHOWN:]
 
 
+def test_wrong_bodies(program: Program) -> None:
+    """Lines of the page that are turned: a test of plain functions refuses each."""
+    output = succeeds(PAGE / "test", "wrong", program=program)
+    assert re.search(r"^wrong bodies: \d\d+ refused, 0 not$", output, re.M), output[-SHOWN:]
+
+
 def page_to_try() -> Path:
     """Answer the page of dist/ if it is of the page's sources as they are, else make one."""
     built = TOP / "dist/BUILT"

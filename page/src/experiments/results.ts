@@ -13,7 +13,8 @@ import { welch_chart } from "./welch_chart";
 export const COLUMNS: readonly (readonly [Column, string])[] = [["average", "time average"], ["greatest", "greatest value"], ["least", "least value"], ["last", "last value"], ["count", "number of times"]];
 export const title_of = (column: Column): string => COLUMNS.find(([each]) => each === column)![1];
 export interface Named { name: string; report: Report; k: number }
-export interface View { item: string; column: Column; limit: string; relation: "most" | "least" }
+/** `called` is what the item is called where it is shown, `unit` what it is counted in. */
+export interface View { item: string; called: string; unit: string; column: Column; limit: string; relation: "most" | "least" }
 
 /** The methods of intervals in words. */
 const INTERVALS: Readonly<Record<string, string>> = { "Student's t": "Student’s t", Willink: "Student’s t, moved by the skewness of the values (Willink)", "Clopper and Pearson": "exact, for values that are 0 or 1 (Clopper and Pearson)" };
@@ -25,6 +26,8 @@ export function columns_of(reports: readonly Report[], item: string): Column[] {
   if (items.every(each => each.count)) return ["count"];
   return (["average", "greatest", "least", "last"] as const).filter(column => items.every(each => column === "average" || each[column]));
 }
+
+const titled = ({ called, unit, column }: View): string => `${called}, ${title_of(column)}${unit && column !== "count" ? `, in ${unit}` : ""}`;
 
 /** A chart with buttons that save it. */
 function figure(title: string, small: string, chart: HTMLElement, ...more: (HTMLElement | null)[]): HTMLElement {
@@ -83,7 +86,7 @@ function broken(named: readonly Named[]): HTMLElement[] {
 export function compared(named: readonly Named[], view: View, changed: (part: Partial<View>) => void, run_seed: (seed: string) => void): HTMLElement[] {
   const all = named.map(each => ({ ...each, values: values_of(each.report, view.item, view.column) })).filter((each): each is Named & { values: number[] } => each.values !== null && each.values.length > 0);
   if (!all.length) return [h("p", { className: "hint" }, "No design watches this.")];
-  const rows = all.map(({ name, k, values }): Interval => ({ label: name, summary: estimate(values, view.column), colour: colour(k) })), title = `${view.item}, ${title_of(view.column)}`;
+  const rows = all.map(({ name, k, values }): Interval => ({ label: name, summary: estimate(values, view.column), colour: colour(k) })), title = titled(view);
   // Intervals of several comparisons hold all together (Bonferroni); p-values are adjusted by Holm.
   const pairs = all.slice(1), level = 1 - 0.05 / Math.max(1, pairs.length), made = pairs.map(({ values }) => paired(all[0].values, values, level)), p = holm(made.map(p_value));
   const differences = pairs.map(({ name, k }, i) => ({ label: (name + all[0].name).length < 18 ? `${name} − ${all[0].name}` : `${name} − base`, summary: made[i], colour: colour(k), strong: true, p: p[i] }));
@@ -92,13 +95,13 @@ export function compared(named: readonly Named[], view: View, changed: (part: Pa
   const runs = Math.min(...all.map(({ values }) => values.length));
   return [...warnings,
     figure(title, `mean of ${count(runs)} runs with its 95 % interval`, interval_chart(rows, false, title), table_of(rows), ...made_by(rows), h("p", { className: "panel-foot" }, h("button", { className: "link", onclick: () => download("estimates.csv", estimates_as_csv(title, [...rows, ...differences]), "text/csv") }, "Save these as CSV"))),
-    ...(differences.length ? [figure("Differences", `run by run, on the same seeds${differences.length > 1 ? `; ${differences.length} comparisons that hold together at 95 %` : ""}`, interval_chart(differences, true, `difference of the ${title_of(view.column)}`), table_of(differences), ...made_by(differences), ...differences.map((each, i) => verdict(view.item, all[0].name, pairs[i].name, each.summary)))] : []),
+    ...(differences.length ? [figure("Differences", `run by run, on the same seeds${differences.length > 1 ? `; ${differences.length} comparisons that hold together at 95 %` : ""}`, interval_chart(differences, true, `difference of the ${title_of(view.column)}`), table_of(differences), ...made_by(differences), ...differences.map((each, i) => verdict(view.called, all[0].name, pairs[i].name, each.summary)))] : []),
     levels(all.map(({ name, values }) => ({ label: name, values })), view, changed),
     figure("Spread over the runs", "", histogram(all.map(({ name, values, k }) => ({ label: name, values, colour: colour(k) })), title))];
 }
 
 export function swept(sweep: Sweep, view: View): HTMLElement[] {
-  const shown = sweep.points.flatMap(({ at, report }) => { const values = values_of(report, view.item, view.column); return values ? [{ at, summary: estimate(values, view.column) }] : []; }), title = `${view.item}, ${title_of(view.column)}`;
+  const shown = sweep.points.flatMap(({ at, report }) => { const values = values_of(report, view.item, view.column); return values ? [{ at, summary: estimate(values, view.column) }] : []; }), title = titled(view);
   const rows = shown.map(({ at, summary: each }) => ({ label: `${sweep.variable} = ${count(at)}`, summary: each, colour: colour(0) }));
   return [figure(title, `for each first value of ${sweep.variable}`, sweep_chart(shown, title, `first value of ${sweep.variable}`, sweep.of), table_of(rows), ...made_by(rows), h("p", { className: "panel-foot" }, h("button", { className: "link", onclick: () => download("sweep.csv", estimates_as_csv(title, rows), "text/csv") }, "Save these as CSV"))),
     ...(sweep.widened ? [h("p", { className: "dim foot" }, `The range of ${sweep.variable} was widened for the sweep.`)] : [])];

@@ -17,7 +17,8 @@ export function words_of(name: string, model: Model, { until, seed, events, star
 }
 
 /** What a run came to, and why. */
-export function ending_in_words({ last, end }: Course, events: number, show: (time: number) => string = count): [string, string] {
+export function ending_in_words({ last, end }: Course, events: number, show: (time: number) => string = count, stopped: number | null = null): [string, string] {
+  if (stopped !== null) return [`Stopped at ${show(end)}, after ${count(stopped)} events`, "What is shown is whole up to there."];
   const { word, time, kind } = ending_of(last);
   if (word === "ended") return [`Ended at ${show(time!)}`, "Nothing was pending any more."];
   if (word === "stopped") return [`Ended at ${show(time!)}, as set`, "That is the stop time."];

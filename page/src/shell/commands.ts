@@ -17,6 +17,7 @@ import { show_text } from "./frame";
 import { GRAPH_RULES, picture_style, png_of, save_blob } from "./pictures";
 import { print_report } from "./report";
 import { Tabs } from "./tabs";
+import { open_versions } from "./versions";
 
 export interface Makers {
   app: App; files: Files; drawing: Drawing; inspector: Inspector; experiments: ExperimentsTab; reduce: ReduceTab; tabs: Tabs; guide: Guide; lay_out: LayOut;
@@ -56,6 +57,7 @@ export function add_commands({ app, files, drawing, inspector, experiments, redu
     { id: "print", title: "Print a report …", keys: "Ctrl+P", group: "File", run: () => void print_report(app, experiments) },
     { id: "undo", title: "Undo", keys: "Ctrl+Z", icon: "undo", group: "Edit", can: () => store.undo_label !== null, run: () => store.undo() },
     { id: "redo", title: "Redo", keys: "Ctrl+Y", icon: "redo", group: "Edit", can: () => store.redo_label !== null, run: () => store.redo() },
+    { id: "versions", title: "Versions …", icon: "copy", group: "Edit", run: () => open_versions(app) },
     { id: "new-event", title: "New event", keys: "N", icon: "plus", group: "Edit", run: () => void drawing.create(null) },
     { id: "new-edge", title: "New edge from here …", keys: "E", icon: "edge", group: "Edit", can: () => app.picked?.kind === "event", run: () => drawing.ask_edge() },
     { id: "duplicate", title: "Duplicate", keys: "Ctrl+D", icon: "copy", group: "Edit", can: () => app.picked?.kind === "event", run: () => void drawing.duplicate() },

@@ -67,6 +67,7 @@ export class Files {
     const { store } = this.app, file = file_name(store.doc.file) || "model.sigma";
     download(file, store.doc.text);
     store.set({ saved: store.doc.text, file });
+    store.keep_version(`Saved as ${file}`);
   }
 
   rename(): void {

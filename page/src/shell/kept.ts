@@ -1,5 +1,5 @@
 // What the browser keeps between visits. It is read as any file is: whatever isn't as it should be is left out.
-import { Doc, Design, EMPTY, FIRST_DESIGNS } from "../store/store";
+import { Doc, Design, EMPTY, FIRST_DESIGNS, Version } from "../store/store";
 import { FIRST_SETTINGS, TypedSettings } from "../store/settings";
 import type { KeptDraft } from "../store/drafts";
 
@@ -37,12 +37,15 @@ function designs_of(value: unknown): readonly Design[] {
   return designs.length ? designs : FIRST_DESIGNS;
 }
 
+const versions_of = (value: unknown): readonly Version[] => (Array.isArray(value) ? value : []).flatMap((each): Version[] =>
+  (is_fields(each) && typeof each.name === "string" && typeof each.at === "number" && typeof each.text === "string" ? [{ name: each.name, at: each.at, text: each.text }] : []));
+
 /** A document as it was kept; null where it isn't one. */
 export function doc_of(value: unknown): Doc | null {
   if (!is_fields(value) || typeof value.text !== "string") return null;
   const designs = designs_of(value.designs), active = designs.some(each => each.id === value.active) ? Number(value.active) : designs[0].id;
   return {
-    ...EMPTY, text: value.text, file: file_name(text_of(value.file)), saved: text_of(value.saved), settings: settings_of(value.settings), designs, active,
+    ...EMPTY, text: value.text, file: file_name(text_of(value.file)), saved: text_of(value.saved), settings: settings_of(value.settings), designs, active, versions: versions_of(value.versions),
   };
 }
 

@@ -79,5 +79,6 @@ export function carried(text: string, before: Model, after: Model): { text: stri
   const written = apply_edits(text, made.map(each => each.edit)), left = new Set(after.vertices.map(each => each.name));
   const kept = (line: string): string => line.replace(/ ([A-Za-z]\w*) -?\d+,-?\d+;/g, (all, name: string) => (left.has(name) ? all : ""));
   const placed = written.replace(/^# places .*\n?/gm, line => (/ -?\d+,/.test(kept(line)) ? kept(line) : ""));
-  return { text: placed, comments: made.reduce((sum, each) => sum + each.comments, 0) };
+  const declared = new Set([...left, ...after.vars.map(each => each.name)]), shown = placed.replace(/^# shown ([A-Za-z]\w*):.*\n?/gm, (line, name: string) => (declared.has(name) ? line : ""));
+  return { text: shown, comments: made.reduce((sum, each) => sum + each.comments, 0) };
 }

@@ -46,6 +46,12 @@ export class CourseCharts {
     this.element.onkeydown = event => { if (this.pressed(event)) event.preventDefault(); };
   }
 
+  /** How times are written, and what items are called: `time` is of a tick, `title` of an item or empty. */
+  said: { time(tick: number): string; title(name: string): string; unit(name: string): string; axis: string } = { time: count, title: () => "", unit: () => "", axis: "time in ticks" };
+
+  /** Writes times and titles anew. */
+  say(said: CourseCharts["said"]): void { this.said = said; this.redraw(); }
+
   /** Shows a run; `fault` is when it ended with one. */
   show(course: Course | null, fault: number | null = null): void {
     this.course = course;
@@ -95,7 +101,7 @@ export class CourseCharts {
     const at = (time: number): number => Math.max(0, Math.min(course.used - 1, Math.floor(time / course.width)));
     const peak = cell.greatest.findIndex(value => value === cell.max) * course.width, note = `mean ${short(course.end ? cell.area / course.end : cell.final)}   max ${short(cell.max)}`;
     return {
-      name: cell.name, note, is_event: false, says: `${cell.name} over time: ${note.replace("   ", ", ")}, first at ${count(peak)}`,
+      name: cell.name, note, is_event: false, says: `${this.said.title(cell.name) || cell.name} over time: ${note.replace("   ", ", ")}, first at ${this.said.time(peak)}`,
       value: time => { const now = this.moment?.get(cell.name); return now === undefined ? short(cell.last[at(time)]) : now === "true" ? "1" : now === "false" ? "0" : short(Number(now)); },
       draw: (group, x, height) => {
         const least = Math.min(0, cell.min), most = Math.max(cell.max, least + 1), y = scaleLinear().domain([least, most]).range([height - 3, 6]), [from, to] = x.domain(), first = at(from), last = at(to), pixels = x.range()[1] - x.range()[0];
@@ -155,11 +161,11 @@ export class CourseCharts {
       this.brush(svg, x, chart - 12, tall);
       const value = h("b", { className: "now" });
       this.values.push({ element: value, row });
-      return h("div", { className: `course-row${row.is_event ? " of-event" : ""}` }, h("div", { className: "course-name", title: row.name }, h("span", {}, row.name), value, h("small", {}, row.note)), svg as unknown as Node);
+      return h("div", { className: `course-row${row.is_event ? " of-event" : ""}` }, h("div", { className: "course-name", title: this.said.title(row.name) || row.name }, h("span", {}, this.said.title(row.name) || row.name), h("span", { className: "course-value" }, value, this.said.unit(row.name) ? h("small", {}, ` ${this.said.unit(row.name)}`) : null), h("small", {}, row.note)), svg as unknown as Node);
     });
     const axis = s("svg", { class: "plot", width: chart, height: TIME, "aria-hidden": "true" }), group = s("g", { class: "axis time", transform: "translate(0 1)" });
-    select(group).call(axisBottom(x).ticks(Math.max(3, Math.floor(chart / 90))).tickFormat(count).tickSizeOuter(0) as never);
-    group.append(s("text", { class: "axis-title", x: (LEFT + chart - 12) / 2, y: 34, "text-anchor": "middle" }, "time in ticks"));
+    select(group).call(axisBottom(x).ticks(Math.max(3, Math.floor(chart / 90))).tickFormat(this.said.time).tickSizeOuter(0) as never);
+    group.append(s("text", { class: "axis-title", x: (LEFT + chart - 12) / 2, y: 34, "text-anchor": "middle" }, this.said.axis));
     axis.append(group);
     const left = h("div", { className: "course-name axis-note" }, this.is_zoomed ? h("button", { className: "link", onclick: () => this.zoom_out() }, "Whole run") : "");
     this.element.replaceChildren(...drawn, h("div", { className: "course-row time-row" }, left, axis as unknown as Node));

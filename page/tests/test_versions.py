@@ -1,0 +1,77 @@
+"""Versions that one goes back to, clock times, and what items are called: all of it belongs to the document."""
+
+from __future__ import annotations
+
+from conftest import wait_for_model
+from drive.browser import Browser
+from test_truth import ACCEPTED, edit, text
+
+RUN = ".head-tools .primary"
+
+
+def test_a_version_is_kept_and_one_goes_back_to_it(page: Browser, address: str) -> None:
+    """By its name, over a reload; Undo takes the way back too."""
+    page.js("sigma.command('versions')")
+    page.write("[aria-label='Name of this version']", "two tellers", "Enter")
+    page.until("document.querySelector('dialog .versions b')?.textContent === 'two tellers'")
+    page.keys("Escape")
+    edit(page, "0..2 = 2", "0..3 = 3")
+    page.until(ACCEPTED)
+    page.until("(localStorage.getItem('sigma2.doc') || '').includes('0..3 = 3')")
+    page.open("about:blank")
+    page.open(address)
+    wait_for_model(page)
+    page.js("sigma.command('versions')")
+    told = page.until("document.querySelector('dialog .versions small')?.textContent")
+    assert "2 lines other than now" in str(told)
+    page.click("dialog .versions button")
+    page.until("sigma.store.doc.text.includes('0..2 = 2')")
+    page.until(ACCEPTED)
+    page.js("sigma.store.undo()")
+    assert "0..3 = 3" in text(page)
+
+
+def test_what_is_saved_stays_so_over_undo(page: Browser) -> None:
+    """After Save and Undo the file has another text than the page, and the head says so."""
+    edit(page, "\nend\n", "\n# more\nend\n")
+    page.chord("Control", "s")
+    page.until("document.querySelector('.doc-state').textContent === 'Saved'")
+    page.click('[aria-label^="Undo"]')
+    page.until("document.querySelector('.doc-state').textContent === 'Edited'")
+    page.until(ACCEPTED)
+
+
+def test_times_are_those_of_a_clock(page: Browser) -> None:
+    """A tick is a minute from 9:00 on: the bank closes at 17:00. The run stays fresh, and the file has it."""
+    page.click(RUN)
+    page.until("sigma.run.result", 60)
+    page.click(".run-tab .settings-fold summary")
+    page.js(
+        "const unit = document.querySelector('[data-setting=unit]');"
+        "unit.value = 'minute'; unit.dispatchEvent(new Event('change'));"
+    )
+    page.until("!document.querySelector('[data-setting=opens]').disabled")
+    page.write("[data-setting=opens]", "9:00", "Tab")
+    page.until("sigma.store.doc.text.includes('# tick minute from 9:00')")
+    page.until("document.querySelector('.run-status').textContent.includes('17:')")
+    page.until("document.querySelector('.axis-title')?.textContent === 'clock'")
+    page.until(ACCEPTED)
+    assert not page.js("return document.querySelector('.run-tab .stale')")
+
+
+def test_items_are_called_as_the_planner_calls_them(page: Browser) -> None:
+    """A title and a unit, beside the charts and over the results; they stand in the text."""
+    page.js("sigma.app.pick(null)")
+    page.write('[data-shown="QUEUE/title"]', "customers waiting")
+    page.write('[data-shown="QUEUE/unit"]', "customers")
+    page.until("sigma.store.doc.text.includes('# shown QUEUE: customers waiting [customers]')")
+    page.click(RUN)
+    page.until(
+        "document.querySelector('.course-name')?.textContent.includes('waiting (QUEUE)')", 60
+    )
+    page.click("#tab-experiments")
+    page.js("sigma.store.set({ settings: { ...sigma.store.doc.settings, runs: '50' } })")
+    page.click(RUN)
+    page.until("sigma.experiments.outcomes.length && !sigma.experiments.busy()", 90)
+    head = page.until("document.querySelector('.results .panel h3')?.textContent")
+    assert "customers waiting (QUEUE), time average, in customers" in str(head)

@@ -1,0 +1,352 @@
+"""Wrong bodies of the page: single lines that are turned, each of which must make a test of plain functions fail.
+
+    page/test wrong            tries all of them
+    page/test wrong NAME..     tries some
+
+A body that no test refuses is named, and the status is 1.
+"""
+
+from __future__ import annotations
+
+import os
+import shutil
+import subprocess
+import sys
+import tempfile
+from concurrent.futures import ThreadPoolExecutor
+from dataclasses import dataclass
+from pathlib import Path
+
+PAGE = Path(__file__).resolve().parent.parent
+LONGEST = 300  # seconds of a test
+
+
+@dataclass(frozen=True)
+class Wrong:
+    """A line of a source, what stands in its place, and the test that must fail."""
+
+    name: str
+    file: str
+    old: str
+    new: str
+    test: str
+
+
+STORE, DRAFTS, ESTIMATES = "store/store.ts", "store/drafts.ts", "experiments/statistics.ts"
+WRONG = (
+    Wrong(
+        "runs_the_text_before_it_is_checked",
+        STORE,
+        'const verdict = await this.check();\n    if (verdict.state === "accepted") return',
+        'const verdict = this.verdict;\n    if (verdict.state === "accepted") return',
+        "store",
+    ),
+    Wrong(
+        "runs_without_what_is_typed_in_forms",
+        STORE,
+        "const problem = await this.commit_forms();",
+        "const problem = null as string | null;",
+        "store",
+    ),
+    Wrong(
+        "takes_an_older_model_for_a_new_revision",
+        STORE,
+        "if (revision !== this.revision) return this.check();",
+        "",
+        "store",
+    ),
+    Wrong(
+        "calls_no_result_old",
+        STORE,
+        'return this.verdict.state !== "accepted" || this.verdict.model.text !== snapshot.model.text;',
+        "return false;",
+        "store",
+    ),
+    Wrong(
+        "calls_a_result_old_after_a_comment",
+        STORE,
+        'return this.verdict.state !== "accepted" || this.verdict.model.text !== snapshot.model.text;',
+        "return true;",
+        "store",
+    ),
+    Wrong(
+        "forgets_that_settings_changed",
+        STORE,
+        "asked = now === null || JSON.stringify(now) !== JSON.stringify(made.settings)",
+        "asked = false",
+        "store",
+    ),
+    Wrong(
+        "shows_results_beside_another_document",
+        STORE,
+        "this.go({ doc: { ...doc, id: ++this.documents }, label",
+        "this.go({ doc: { ...doc, id: this.doc.id }, label",
+        "store",
+    ),
+    Wrong(
+        "keeps_the_file_name_past_open",
+        STORE,
+        "this.future.push(this.step);\n    this.put(before);",
+        "this.future.push(this.step);\n    this.put({ ...before, doc: { ...before.doc, file: this.doc.file } });",
+        "store",
+    ),
+    Wrong(
+        "keeps_the_model_of_another_file",
+        STORE,
+        "if (step.doc.id !== before.id) this.shown = null;",
+        "",
+        "store",
+    ),
+    Wrong("shares_drafts", DRAFTS, "const { id } = this.store.doc;", "const id = 0;", "store"),
+    Wrong(
+        "drops_a_refused_change",
+        DRAFTS,
+        'if (drafts.length === 1 && judged.state === "refused") explain(',
+        'this.remove(id, drafts[0][0]);\n      if (drafts.length === 1 && judged.state === "refused") explain(',
+        "store",
+    ),
+    Wrong(
+        "loses_what_was_typed_meanwhile",
+        DRAFTS,
+        "if (store.revision !== revision) { await store.check(); return this.attempt(id, drafts); }",
+        "",
+        "store",
+    ),
+    Wrong(
+        "reads_1e6_as_another_number",
+        "store/settings.ts",
+        "10n ** BigInt(power - part.length)",
+        "10n ** BigInt(power + 1)",
+        "store",
+    ),
+    Wrong(
+        "divides_by_n",
+        ESTIMATES,
+        "Math.sqrt(second / (n - 1))",
+        "Math.sqrt(second / n)",
+        "lab",
+    ),
+    Wrong(
+        "takes_n_degrees_of_freedom",
+        ESTIMATES,
+        "t = student(n - 1, level)",
+        "t = student(n, level)",
+        "lab",
+    ),
+    Wrong(
+        "moves_to_the_wrong_side", ESTIMATES, "slope * (t - slope)", "slope * (t + slope)", "lab"
+    ),
+    Wrong(
+        "multiplies_all_by_the_number_of_comparisons",
+        ESTIMATES,
+        "p * (order.length - rank)",
+        "p * order.length",
+        "lab",
+    ),
+    Wrong(
+        "takes_the_other_design_away",
+        ESTIMATES,
+        "(value, k) => value - a[k]",
+        "(value, k) => a[k] - value",
+        "lab",
+    ),
+    Wrong(
+        "ends_a_quantile_one_value_early",
+        ESTIMATES,
+        "binomial(k - 1, n, p) >= 1 - half",
+        "binomial(k, n, p) >= 1 - half",
+        "lab",
+    ),
+    Wrong(
+        "ends_a_share_too_low",
+        ESTIMATES,
+        "beta_part(p, ones + 1, runs - ones)",
+        "beta_part(p, ones, runs - ones + 1)",
+        "lab",
+    ),
+    Wrong(
+        "gives_equal_values_an_interval",
+        ESTIMATES,
+        "if (least === greatest) return",
+        "if (least > greatest) return",
+        "lab",
+    ),
+    Wrong(
+        "forgets_the_time_of_a_run",
+        "engine/report.ts",
+        "time > 0 ? item.area![k] / time",
+        "time > 0 ? item.area![k]",
+        "lab",
+    ),
+    Wrong(
+        "counts_the_warm_up",
+        "engine/report.ts",
+        "times: less(whole.times, early.times)!",
+        "times: whole.times",
+        "lab",
+    ),
+    Wrong(
+        "takes_neighbouring_seeds",
+        "engine/replicate.ts",
+        "BigInt(k) * BigInt(stride)",
+        "BigInt(k)",
+        "engine",
+    ),
+    Wrong(
+        "joins_pieces_as_they_come",
+        "engine/replicate.ts",
+        "pieces.sort((a, b) => a.from - b.from);",
+        "pieces.sort((a, b) => b.from - a.from);",
+        "engine",
+    ),
+    Wrong(
+        "names_the_event_after_the_fault",
+        "run/fault.ts",
+        "  return none;\n}",
+        "  return none - 1;\n}",
+        "engine",
+    ),
+    Wrong(
+        "begins_each_day_at_midnight",
+        "run/clock.ts",
+        "const all = begin + time * length",
+        "const all = time * length",
+        "words",
+    ),
+    Wrong(
+        "unpacks_links_without_end",
+        "shell/links.ts",
+        "if (size > most) {",
+        "if (size > 2 * most) {",
+        "words",
+    ),
+    Wrong(
+        "draws_from_used_streams",
+        "text/templates.ts",
+        "if (!used.has(String(stream))) free.push(stream);",
+        "free.push(stream);",
+        "words",
+    ),
+    Wrong(
+        "finds_no_shared_stream",
+        "problems/findings.ts",
+        "=== first)).length < 2) return [];",
+        "=== first)).length < 3) return [];",
+        "problems",
+    ),
+    Wrong(
+        "points_at_another_edge",
+        "problems/findings.ts",
+        'const edge = ({ from, place }: Edge): Where => ({ kind: "edge", from, place });',
+        'const edge = ({ from }: Edge): Where => ({ kind: "edge", from, place: 0 });',
+        "problems",
+    ),
+    Wrong(
+        "loses_comments_of_what_stays",
+        "text/carry.ts",
+        'fate[k] === "keep" ? []',
+        "fate[k] === fate[0] ? []",
+        "carry",
+    ),
+    Wrong(
+        "undoes_what_is_saved",
+        STORE,
+        "return step.doc.id === id ? {",
+        "return step.doc.id < id ? {",
+        "store",
+    ),
+    Wrong(
+        "keeps_a_result_with_the_open_document",
+        STORE,
+        "keep(document: number, value: T): void { this.all.set(document, value); }",
+        "keep(document: number, value: T): void { this.now = value; }",
+        "pieces",
+    ),
+    Wrong(
+        "makes_events_of_a_piece_twice",
+        "run/pieces.ts",
+        "String(end - done)",
+        "String(end)",
+        "pieces",
+    ),
+    Wrong(
+        "loses_the_title_of_an_item",
+        "text/edits.ts",
+        "return [...shown, ...kept,",
+        "return [...kept,",
+        "words",
+    ),
+    Wrong(
+        "offers_names_in_comments",
+        "text/completion.ts",
+        'if (line.includes("#") || ',
+        "if (",
+        "completion",
+    ),
+)
+
+
+def refused(wrong: Wrong, room: Path) -> bool:
+    """Return whether the test fails over the page with this body."""
+    source = room / "src" / wrong.file
+    text = source.read_text(encoding="utf-8")
+    if text.count(wrong.old) != 1:
+        raise SystemExit(
+            f"{wrong.name}: its line stands {text.count(wrong.old)} times in {wrong.file}"
+        )
+    source.write_text(text.replace(wrong.old, wrong.new), encoding="utf-8")
+    made = room / "made.mjs"
+    words = [
+        "--bundle",
+        "--platform=node",
+        "--format=esm",
+        f"--outfile={made}",
+        "--log-level=error",
+    ]
+    places = {**os.environ, "NODE_PATH": "/usr/share/nodejs"}
+    built = subprocess.run(
+        ["esbuild", f"tests/{wrong.test}.test.ts", *words], cwd=room, env=places, check=False
+    )
+    if built.returncode:
+        raise SystemExit(f"{wrong.name}: esbuild refuses it, which shows nothing")
+    node = ["/usr/bin/node", "--test", made]
+    try:
+        ran = subprocess.run(
+            node, cwd=room, env=places, capture_output=True, timeout=LONGEST, check=False
+        )
+    except subprocess.TimeoutExpired:
+        return True
+    return ran.returncode != 0
+
+
+def tried(wrong: Wrong) -> bool:
+    """Return whether a test refuses this body; it is written into a copy of the sources."""
+    with tempfile.TemporaryDirectory() as folder:
+        room = Path(folder)
+        for part in ("src", "types"):
+            shutil.copytree(PAGE / part, room / part)
+        shutil.copytree(
+            PAGE / "tests", room / "tests", ignore=shutil.ignore_patterns("*.py", "drive")
+        )
+        shutil.copy(PAGE / "tsconfig.json", room)
+        return refused(wrong, room)
+
+
+def main(names: list[str]) -> int:
+    """Try the bodies with these names, or all."""
+    unknown = set(names) - {each.name for each in WRONG}
+    if unknown:
+        print(f"no wrong body is called {', '.join(sorted(unknown))}", file=sys.stderr)
+        return 2
+    chosen = [each for each in WRONG if not names or each.name in names]
+    with ThreadPoolExecutor(2) as workers:
+        answers = list(workers.map(tried, chosen))
+    missed = [each.name for each, answer in zip(chosen, answers, strict=True) if not answer]
+    for name in missed:
+        print(f"no test refuses {name}")
+    print(f"wrong bodies: {len(chosen) - len(missed)} refused, {len(missed)} not")
+    return 1 if missed else 0
+
+
+if __name__ == "__main__":
+    sys.exit(main(sys.argv[1:]))
