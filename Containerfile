@@ -10,7 +10,7 @@
 FROM debian:12
 COPY share/packages share/missing_packages /sigma/share/
 RUN apt-get update \
-    && apt-get install -y --no-install-recommends $(/sigma/share/missing_packages --all build lab tools page tests browsers pack) \
+    && apt-get install -y --no-install-recommends $(/sigma/share/missing_packages --all build lab page tests browsers pack) \
     && rm -rf /var/lib/apt/lists/*
 COPY . /sigma
 WORKDIR /sigma

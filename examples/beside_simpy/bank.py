@@ -2,7 +2,7 @@
 
     /usr/bin/python3 bank.py SEED RUNS >REPORT
 
-It writes of QUEUE the rows that `sigma replicate` writes, with time and area, so that tools/means reads them. The
+It writes of QUEUE the rows that `sigma replicate` writes, with time and area, so that `sigma-lab means` reads them. The
 random numbers are Python's own, so the days are others. With a third word, `steps`, it writes how many events SimPy made.
 """
 import random

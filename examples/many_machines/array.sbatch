@@ -5,7 +5,7 @@
 #
 #     job=$(sbatch --parsable array.sbatch) && sbatch --dependency=afterok:$job collect.sbatch
 #
-# Tasks are counted from 1 to `parts`. A task whose node is gone goes into the queue again, and so does one that fails by anything
+# Tasks are counted from 1 to `parts`, and there are as many runs or more. A task whose node is gone goes into the queue again, and so does one that fails by anything
 # but a refusal, three times at most. A part has its name only once it is whole.
 #SBATCH --array=1-48
 #SBATCH --requeue
@@ -13,9 +13,7 @@
 #SBATCH --output=part.%a.log
 . ./study || exit
 part=$SLURM_ARRAY_TASK_ID
-asked=$(sigma-runs-of-part "$part" $parts $words) || exit
-[ -n "$asked" ] || exit 0
-sigma replicate $asked <$model >"part.$part.new"
+sigma-lab replicate $model $words --part "$part/$parts" --workers 1 >"part.$part.new"
 ended=$?
 case $ended in
     0) mv "part.$part.new" "part.$part" ;;

@@ -6,11 +6,8 @@
 set --
 part=1
 while [ "$part" -le "$parts" ]; do
-    asked=$(sigma-runs-of-part "$part" $parts $words) || exit
-    if [ -n "$asked" ]; then
-        [ -f "part.$part" ] || { echo "part.$part isn't there"; exit 1; }
-        set -- "$@" "part.$part"
-    fi
+    [ -f "part.$part" ] || { echo "part.$part isn't there"; exit 1; }
+    set -- "$@" "part.$part"
     part=$((part + 1))
 done
-sigma-join-reports "$@" >report.new && mv report.new report.csv
+sigma-lab join "$@" >report.new && mv report.new report.csv

@@ -4,25 +4,26 @@ from __future__ import annotations
 
 import hashlib
 import json
+import re
 import subprocess
-import sys
 from pathlib import Path
 
 from bundle import PAGE, BuildError
 
 ROOT = PAGE.parent
-sys.path.insert(0, str(ROOT / "lab"))
-
-from sigma_lab.errors import LabError  # noqa: E402
-from sigma_lab.filling import fill  # noqa: E402
+ASKS_FOR_TABLES = re.compile(r"^# table |^ *# values ", re.MULTILINE)
 
 
 def _filled(file: Path) -> str:
     """Return an example; tables that its comments ask for are filled in, as the page can't read files."""
-    try:
-        return fill(file.read_text(encoding="utf-8"), file.parent).text
-    except LabError as error:
-        raise BuildError(f"the tables of {file.name} can't be filled in: {error}") from None
+    text = file.read_text(encoding="utf-8")
+    if not ASKS_FOR_TABLES.search(text):
+        return text
+    words: list[str | Path] = [ROOT / "lab" / "sigma-lab", "tables", "--fill", file]
+    done = subprocess.run(words, capture_output=True, text=True, check=False)
+    if done.returncode:
+        raise BuildError(f"the tables of {file.name} can't be filled in: {done.stderr.strip()}")
+    return done.stdout
 
 
 def examples(out: Path) -> dict[str, str]:

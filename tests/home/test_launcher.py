@@ -256,15 +256,14 @@ def test_the_note_describes_the_bytes(checkout: SmallCheckout) -> None:
     assert (told["kit"], told["verdict"]) == (KIT, VERDICT)
 
 
-def test_a_tool_builds_nothing(checkout: SmallCheckout) -> None:
-    """A tool beside the sources takes the program that answers the launcher, or says that none does."""
-    shutil.copytree(TOP / "tools", checkout.top / "tools")
-    tool = checkout.top / "tools/whyfault"
-    model = str(TOP / "examples/desk.sigma")
-    words = (model, "--until", "30", "--seed", "7")
+def test_the_lab_builds_nothing(checkout: SmallCheckout) -> None:
+    """The lab beside the sources takes the program of dist/, or says that none is there."""
+    shutil.copytree(TOP / "lab", checkout.top / "lab", ignore=shutil.ignore_patterns("__pycache__"))
+    lab = checkout.top / "lab/sigma-lab"
+    words = ("place", str(TOP / "examples/desk.sigma"))
     checkout.give_kit()
-    line = "whyfault: no program is there: ./sigma builds one"
-    checkout.call(*words, command=tool).refuses(1, line)
+    line = "sigma-lab: sigma: there is no program sigma: set SIGMA to its path"
+    checkout.call(*words, command=lab).refuses(1, line)
     assert checkout.builds() == 0
     checkout.give_dist()
-    assert checkout.call(*words, command=tool).errors != line.encode() + b"\n"
+    assert line.encode() not in checkout.call(*words, command=lab).errors

@@ -24,7 +24,6 @@ PARTS = (
     "docs",
     "examples",
     "lab",
-    "tools",
     "install",
     "uninstall",
     "pack",
@@ -197,8 +196,8 @@ def test_the_version_is_semantic() -> None:
 def test_the_container_has_no_list_of_its_own() -> None:
     """Containerfile takes its packages from the one list, whose lines are a package and groups."""
     text = (TOP / "Containerfile").read_text()
-    assert "/sigma/share/missing_packages --all build lab tools page tests browsers pack" in text
-    groups = {"build", "lab", "tools", "page", "tests", "browsers", "pack"}
+    assert "/sigma/share/missing_packages --all build lab page tests browsers pack" in text
+    groups = {"build", "lab", "page", "tests", "browsers", "pack"}
     lines = [
         line.split()
         for line in Path(TOP / "share/packages").read_text().splitlines()

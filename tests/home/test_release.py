@@ -230,7 +230,7 @@ def test_packages_that_are_missing(gate: SmallCheckout) -> None:
     )
     listed = gate.call(
         "--all",
-        *"build lab tools page tests browsers pack".split(),
+        *"build lab page tests browsers pack".split(),
         command=gate.top / "share/missing_packages",
     )
     assert names.split() == listed.output.decode().split()

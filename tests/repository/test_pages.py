@@ -1,7 +1,7 @@
 """Each command that a page shows is run, and its output compared with what the page shows.
 
 A page's commands are run in their order, in a folder of its own that has the repository's
-examples, documents, tools and program. `cat FILE` of a file that isn't there makes it from what is
+examples, documents, lab and program. `cat FILE` of a file that isn't there makes it from what is
 shown.
 """
 
@@ -20,7 +20,7 @@ from support.pages import Command, commands, essence, is_shown
 from support.places import TOP, kept_files
 from support.program import LONGEST, Program
 
-LINKED = ("examples", "docs", "tools", "lab", "share", "cases")
+LINKED = ("examples", "docs", "lab", "share", "cases")
 PAGES = [path for path in kept_files("*.md") if commands(path.read_text())]
 SHOWN = 20
 

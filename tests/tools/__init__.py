@@ -1,1 +1,0 @@
-"""Tests of the scripts in `tools`, until `sigma-lab` has taken their place on every page."""
