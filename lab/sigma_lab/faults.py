@@ -2,6 +2,7 @@
 
 from __future__ import annotations
 
+from collections.abc import Iterator
 from dataclasses import dataclass, field, replace
 from typing import TYPE_CHECKING
 
@@ -18,6 +19,7 @@ if TYPE_CHECKING:
     from .model import Model
 
 _LOOK_BACK = 2000  # the most events at the end of a budget that are looked at
+_FIRST_BUDGET = 10**6  # after so many events it is first asked whether the run is endless
 
 
 @dataclass(frozen=True, repr=False)
@@ -78,6 +80,17 @@ class Stuck:
     in_tick: int
     cycle: tuple[str, ...]
     last: list[TracedEvent]
+    is_whole: bool  # whether the events in `last` have the changes of all variables
+
+    @property
+    def changed(self) -> set[str]:
+        """The variables that a turn of the cycle changes."""
+        return {name for each in self.last[-len(self.cycle) :] for name, _, _ in each.changes}
+
+    @property
+    def is_endless(self) -> bool:
+        """Whether the same events come again and again at one tick, and change nothing."""
+        return bool(self.cycle) and self.is_whole and not self.changed
 
     def __str__(self) -> str:
         lines = [
@@ -85,9 +98,7 @@ class Stuck:
         ]
         if self.cycle:
             lines.append(f"    without end: {' -> '.join((*self.cycle, self.cycle[0]))}")
-            changed = {
-                name for each in self.last[-len(self.cycle) :] for name, _, _ in each.changes
-            }
+            changed = self.changed
             lines.append(
                 f"    each turn changes {', '.join(sorted(changed))}"
                 if changed
@@ -129,7 +140,8 @@ def whyfault(
     start : tuple of int
         The starting values; without them the variables' own values.
     events : int
-        The most events; a run that has more is taken for endless.
+        The most events; a run that has more is taken for endless. One in which the same events come again and again at
+        one tick, and change nothing, is noticed before.
 
     Raises
     ------
@@ -137,14 +149,27 @@ def whyfault(
         If the run does neither.
     """
     graph = model.filled().graph
-    run = probe.run_of(graph, until, seed, start, events)
-    end = probe.ending(graph, run)
-    if end.outcome == "budget":
-        return _stuck(graph, run, end)
+    for budget in _budgets(events):
+        run = probe.run_of(graph, until, seed, start, budget)
+        end = probe.ending(graph, run)
+        if end.outcome != "budget":
+            break
+        stuck = _stuck(graph, run, end)
+        if budget == events or stuck.is_endless:
+            return stuck
     if end.outcome != "fault":
         raise NoEstimate(f"the run doesn't fault: {end.outcome} {end.tick}")
     event = FaultingEvent(graph, run, snapshot_of(graph, run, end.events))
     return replace(_fault(event), scheduled=_scheduled(graph, run, end.events))
+
+
+def _budgets(events: int) -> Iterator[int]:
+    """Budgets that grow to the one that was asked for, so that an endless run is noticed long before it."""
+    budget = _FIRST_BUDGET
+    while budget < events:
+        yield budget
+        budget *= 10
+    yield events
 
 
 def snapshot_of(graph: EventGraph, run: Run, events: int) -> Snapshot:
@@ -199,8 +224,10 @@ def _stuck(graph: EventGraph, run: Run, end: probe.Ending) -> Stuck:
     before = probe.ending(graph, run, end.tick - 1).events if end.tick else 0
     done = max(0, end.events - _LOOK_BACK)
     small = [each.name for each in graph.variables if (each.size or 1) <= 64]
-    watched = [name for name in written(graph) if name in small]
+    changing = written(graph)
+    watched = [name for name in changing if name in small]
     found, _ = traced(graph, snapshot_of(graph, run, done), run.until, end.events - done, watched)
     last = [each for each in found if each.tick == end.tick]
     cycle = cycle_of([each.vertex for each in last])
-    return Stuck(end.tick, run.until, end.events, end.events - before, cycle, last or found[-20:])
+    in_tick, is_whole = end.events - before, len(watched) == len(changing)
+    return Stuck(end.tick, run.until, end.events, in_tick, cycle, last or found[-20:], is_whole)
