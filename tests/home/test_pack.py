@@ -20,6 +20,7 @@ REDUCED = stored_answer("one.reduce")
 PARTS = (
     "README.md",
     "CHANGES.md",
+    "CONTRIBUTING.md",
     "SECURITY.md",
     "docs",
     "examples",
@@ -34,8 +35,21 @@ PACKAGE = f"sigma_{VERSION}_amd64.deb"
 
 
 def pack(checkout: SmallCheckout, folder: str, *words: str) -> Answer:
-    """Pack a checkout into a folder beside it."""
-    return checkout.call(*words, str(checkout.folder / folder), command=checkout.top / "pack")
+    """Pack a checkout into a folder beside it. A small site stands in, since `test_site` builds the whole one."""
+    return checkout.call(
+        *words,
+        str(checkout.folder / folder),
+        command=checkout.top / "pack",
+        environment=checkout.environment(SITE=str(small_site(checkout))),
+    )
+
+
+def small_site(checkout: SmallCheckout) -> Path:
+    """Make a site of one page beside a checkout."""
+    site = checkout.folder / "site"
+    site.mkdir(exist_ok=True)
+    (site / "index.html").write_text("<!doctype html><title>SIGMA</title>\n")
+    return site
 
 
 @pytest.fixture
@@ -73,7 +87,8 @@ def test_two_packs_are_the_same_bytes(packable: SmallCheckout) -> None:
         other,
         packable.folder / "second",
     ]
-    subprocess.run(again, check=True, env=packable.environment(), capture_output=True)
+    environment = packable.environment(SITE=str(small_site(packable)))
+    subprocess.run(again, check=True, env=environment, capture_output=True)
     for name in (ARCHIVE, PACKAGE, "SHA256SUMS"):
         first, second = packable.folder / "first" / name, packable.folder / "second" / name
         assert first.read_bytes() == second.read_bytes(), name
@@ -96,6 +111,7 @@ def test_an_archive_at_home(packable: SmallCheckout) -> None:
         archive.extractall(packable.folder)
     top = packable.folder / f"sigma-{VERSION}"
     subprocess.run(["sha256sum", "--quiet", "-c", "SHA256SUMS"], cwd=top, check=True)
+    assert (top / "html/index.html").read_text() == "<!doctype html><title>SIGMA</title>\n"
     built = dict(line.split(" ", 1) for line in (top / "BUILT").read_text().splitlines())
     assert (built["version"], built["kit"], built["verdict"]) == (VERSION, KIT, VERDICT)
     assert built["program"] == sha256(top / "sigma") and built["page"] == sha256(top / "sigma.html")

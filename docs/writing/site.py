@@ -1,0 +1,143 @@
+"""Builds the site: copies the pages and what they link to, adds the navigation, and calls Sphinx."""
+
+from __future__ import annotations
+
+import re
+import shutil
+import subprocess
+import sys
+import tempfile
+from pathlib import Path
+from urllib.parse import unquote
+
+from support.pages import LINK
+from support.places import TOP, kept_files
+
+SITE = TOP / "docs/site"
+PICTURES = (".png", ".svg")
+ELSEWHERE = ("http://", "https://", "mailto:", "#")
+# The navigation: a caption, and the pages below it. A `*` takes the rest of a folder, sorted by name.
+NAVIGATION = {
+    "Use": ("docs/use/README", "docs/use/tutorial", "docs/use/install", "docs/use/*"),
+    "Trust": ("docs/trust/README", "docs/trust/for-sceptics", "docs/trust/*", "SECURITY"),
+    "Work": ("CONTRIBUTING", "docs/work/map", "docs/work/*", "CHANGES"),
+    "Examples and the rest": ("examples/*", "examples/*/*", "lab/*", "lab/*/*", "tools/*"),
+    "Crates": ("crates/*/*",),
+}
+
+
+def pages() -> list[Path]:
+    """List the pages, by their paths in the repository."""
+    return [path.relative_to(TOP) for path in kept_files("*.md")]
+
+
+def listed(names: list[str]) -> dict[str, list[str]]:
+    """Share the pages out to the captions, each once.
+
+    Raises
+    ------
+    ValueError
+        If a page has no caption.
+    """
+    left = [name for name in names if name != "README"]
+    found: dict[str, list[str]] = {}
+    for caption, patterns in NAVIGATION.items():
+        for pattern in patterns:
+            taken = [
+                name
+                for name in left
+                if Path(name).match(pattern) and name.count("/") == pattern.count("/")
+            ]
+            left = [name for name in left if name not in taken]
+            found.setdefault(caption, []).extend(taken)
+    if left:
+        raise ValueError(f"docs/writing/site.py lists these pages nowhere: {', '.join(left)}")
+    return found
+
+
+def navigation(names: list[str]) -> str:
+    """Write the trees of pages that the first page ends with."""
+    trees = [
+        "```{toctree}\n:hidden:\n:caption: " + caption + "\n\n" + "\n".join(below) + "\n```\n"
+        for caption, below in listed(names).items()
+    ]
+    return "\n" + "\n".join(trees)
+
+
+def linked(page: Path, text: str, room: Path) -> str:
+    """Copy the files that a page links to, and let its links download them; a link to a folder is left as its text."""
+
+    def follow(found: re.Match[str]) -> str:
+        name = unquote(found[1]).partition("#")[0]
+        if found[1].startswith(ELSEWHERE) or name.endswith(".md"):
+            return found[0]
+        target = (TOP / page.parent / name).resolve()
+        shown = found[0][found[0].index("[") + 1 : found[0].rindex("](")]
+        if target.is_dir():
+            return shown
+        goal = room / target.relative_to(TOP)
+        goal.parent.mkdir(parents=True, exist_ok=True)
+        shutil.copyfile(target, goal)
+        if found[0].startswith("!") and target.suffix in PICTURES:
+            return found[0]
+        return "{download}`" + shown.replace("`", "") + f" <{name}>`"
+
+    lines = text.split("\n")
+    is_fenced = False
+    for at, line in enumerate(lines):
+        is_fenced ^= line.lstrip().startswith("```")
+        if not is_fenced and not line.startswith("    "):
+            lines[at] = LINK.sub(follow, line)
+    return "\n".join(lines)
+
+
+def furnish(room: Path) -> None:
+    """Fill a folder with what Sphinx reads."""
+    found = pages()
+    for page in found:
+        text = linked(page, (TOP / page).read_text(), room)
+        if page == Path("README.md"):
+            text += navigation([str(each.with_suffix("")) for each in found])
+        (room / page).parent.mkdir(parents=True, exist_ok=True)
+        (room / page).write_text(text)
+    (room / "_static").mkdir()
+    shutil.copyfile(SITE / "site.css", room / "_static/site.css")
+    shutil.copyfile(SITE / "conf.py", room / "conf.py")
+
+
+def build(goal: Path) -> int:
+    """Build the site into a folder, and answer the status of Sphinx."""
+    with tempfile.TemporaryDirectory(prefix="sigma-site-") as name:
+        room = Path(name)
+        (room / "pages").mkdir()
+        furnish(room / "pages")
+        made = room / "site"
+        words = [
+            "-q",
+            "-b",
+            "html",
+            "-W",
+            "--keep-going",
+            "-d",
+            room / "trees",
+            room / "pages",
+            made,
+        ]
+        status = subprocess.run([sys.executable, "-m", "sphinx", *words], check=False).returncode
+        if status == 0:
+            (made / ".buildinfo").unlink(missing_ok=True)
+            first = '<meta http-equiv="refresh" content="0; url=README.html"><title>SIGMA</title>\n'
+            (made / "index.html").write_text(f"<!DOCTYPE html>\n{first}")
+            shutil.rmtree(goal, ignore_errors=True)
+            goal.parent.mkdir(parents=True, exist_ok=True)
+            shutil.move(made, goal)
+    return status
+
+
+def main(words: list[str]) -> int:
+    """Build the site into the folder that a word names."""
+    if len(words) > 1 or any(word.startswith("-") for word in words):
+        print("docs/site/build: it takes one folder", file=sys.stderr)
+        return 2
+    goal = Path(words[0]).resolve() if words else TOP / "out/site"
+    return build(goal)
