@@ -112,18 +112,9 @@ def build(goal: Path) -> int:
         (room / "pages").mkdir()
         furnish(room / "pages")
         made = room / "site"
-        words = [
-            "-q",
-            "-b",
-            "html",
-            "-W",
-            "--keep-going",
-            "-d",
-            room / "trees",
-            room / "pages",
-            made,
-        ]
-        status = subprocess.run([sys.executable, "-m", "sphinx", *words], check=False).returncode
+        options = ["-q", "-b", "html", "-W", "--keep-going", "-d", str(room / "trees")]
+        words = [sys.executable, "-m", "sphinx", *options, str(room / "pages"), str(made)]
+        status = subprocess.run(words, check=False).returncode
         if status == 0:
             (made / ".buildinfo").unlink(missing_ok=True)
             first = '<meta http-equiv="refresh" content="0; url=README.html"><title>SIGMA</title>\n'
