@@ -16,14 +16,20 @@ from support.places import TOP, kept_files
 SITE = TOP / "docs/site"
 PICTURES = (".png", ".svg")
 ELSEWHERE = ("http://", "https://", "mailto:", "#")
-# The navigation: a caption, and the pages below it. A `*` takes the rest of a folder, sorted by name.
+# The navigation: a caption, and the pages below it. A `*` takes the rest of a folder, sorted by name. What is left comes last.
 NAVIGATION = {
-    "Use": ("docs/use/README", "docs/use/tutorial", "docs/use/install", "docs/use/*"),
+    "Use": (
+        "docs/README",
+        "docs/use/README",
+        "docs/use/tutorial",
+        "docs/use/install",
+        "docs/use/*",
+    ),
     "Trust": ("docs/trust/README", "docs/trust/for-sceptics", "docs/trust/*", "SECURITY"),
     "Work": ("CONTRIBUTING", "docs/work/map", "docs/work/*", "CHANGES"),
-    "Examples and the rest": ("examples/*", "examples/*/*", "lab/*", "lab/*/*", "tools/*"),
     "Crates": ("crates/*/*",),
 }
+REST = "Examples and more"
 
 
 def pages() -> list[Path]:
@@ -31,28 +37,21 @@ def pages() -> list[Path]:
     return [path.relative_to(TOP) for path in kept_files("*.md")]
 
 
-def listed(names: list[str]) -> dict[str, list[str]]:
-    """Share the pages out to the captions, each once.
+def is_of(name: str, pattern: str) -> bool:
+    """Answer whether a page is meant by a pattern of the navigation; a `*` stands for no `/`."""
+    return Path(name).match(pattern) and name.count("/") == pattern.count("/")
 
-    Raises
-    ------
-    ValueError
-        If a page has no caption.
-    """
+
+def listed(names: list[str]) -> dict[str, list[str]]:
+    """Share the pages out to the captions, each once."""
     left = [name for name in names if name != "README"]
     found: dict[str, list[str]] = {}
     for caption, patterns in NAVIGATION.items():
         for pattern in patterns:
-            taken = [
-                name
-                for name in left
-                if Path(name).match(pattern) and name.count("/") == pattern.count("/")
-            ]
+            taken = [name for name in left if is_of(name, pattern)]
             left = [name for name in left if name not in taken]
             found.setdefault(caption, []).extend(taken)
-    if left:
-        raise ValueError(f"docs/writing/site.py lists these pages nowhere: {', '.join(left)}")
-    return found
+    return {**found, REST: left}
 
 
 def navigation(names: list[str]) -> str:

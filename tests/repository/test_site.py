@@ -13,7 +13,7 @@ import pytest
 
 from support.places import TOP
 from support.program import LONGEST
-from writing.site import NAVIGATION, listed, pages
+from writing.site import NAVIGATION, REST, listed, pages
 
 
 class Links(HTMLParser):
@@ -93,13 +93,13 @@ def test_the_search_knows_the_pages(site: Path) -> None:
     assert json.dumps("Tutorial")[:-1] in text
 
 
-def test_a_page_without_a_caption_is_refused() -> None:
-    """The navigation has each page once, and a page that it doesn't name fails."""
+def test_the_navigation() -> None:
+    """It has each page once, and those that it doesn't name come last."""
     names = [str(page.with_suffix("")) for page in pages()]
     found = listed(names)
     assert sorted(name for below in found.values() for name in below) == sorted(
         set(names) - {"README"}
     )
-    assert list(found) == list(NAVIGATION) and all(found.values())
-    with pytest.raises(ValueError, match="page/src/NOTES"):
-        listed([*names, "page/src/NOTES"])
+    assert list(found) == [*NAVIGATION, REST] and all(found.values())
+    assert found["Crates"][0].startswith("crates/") and found["Trust"][0] == "docs/trust/README"
+    assert listed(["README", "page/src/NOTES"])[REST] == ["page/src/NOTES"]
