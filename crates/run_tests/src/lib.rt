@@ -10,4 +10,8 @@ mod histories;
 #[cfg(test)]
 mod parts;
 #[cfg(test)]
+mod saved_runs;
+#[cfg(test)]
 mod small_models;
+#[cfg(test)]
+mod tallies;
