@@ -20,7 +20,8 @@ def pytest_addoption(parser: pytest.Parser) -> None:
     """Take the words that page/test gives on."""
     parser.addoption("--page", default=str(PAGE / "out" / "sigma.html"))
     parser.addoption("--browser", action="append", choices=sorted(KINDS))
-    parser.addoption("--shots", default="")
+    parser.addoption("--actions", type=int, default=300, help="of the random walk")
+    parser.addoption("--seed", type=int, default=1, help="of the random walk")
 
 
 def pytest_generate_tests(metafunc: pytest.Metafunc) -> None:
