@@ -48,7 +48,7 @@ def words(about: str, ticks: int) -> tuple[int, int]:
 
 def row(case: Case, ticks: int, runs: int) -> str:
     """Model, measure, theory, the mean of the runs, its standard error, and how many of these they are apart."""
-    plan = Plan(ticks, runs=runs, start=case.start)
+    plan = Plan(ticks, runs=runs, events=10**9, start=case.start)
     made = replicate(EXAMPLES / f"{case.model}.sigma", plan).estimate(case.measure)
     apart = abs(made.value - case.theory) / made.standard_error
     name = Path(case.model).name

@@ -207,7 +207,7 @@ def add_plan(parser: Parser, *, runs: int | None = None, warm_up: bool = True) -
     )
     add("--until", type=whole, required=True, metavar="TICK", help="the tick at which runs stop")
     add("--seed", type=whole, default=1, help="the seed of the series of runs (1)")
-    add("--events", type=whole, default=10**9, help="the most events of a run (10^9)")
+    add("--events", type=whole, default=10**7, help="the most events of a run (10^7)")
     add("--start", type=wholes, default=(), metavar="V,V", help="starting values")
     if runs is not None:
         add("--runs", type=whole, default=runs, help=f"how many runs ({runs})")

@@ -80,8 +80,8 @@ def _run_words(parser: Parser) -> None:
     text = "the seed of the run, as the column seed of a report has it"
     parser.add_argument("--seed", type=whole, required=True, help=text)
     parser.add_argument("--start", type=wholes, default=(), metavar="V,V", help="starting values")
-    text = "the most events of the run (2^40)"
-    parser.add_argument("--events", type=whole, default=2**40, help=text)
+    text = "the most events of the run (10^7)"
+    parser.add_argument("--events", type=whole, default=10**7, help=text)
 
 
 def _place_words(parser: Parser) -> None:
@@ -232,7 +232,7 @@ def _lint_words(parser: Parser) -> None:
     parser.add_argument("--runs", type=whole, default=20, help="how many runs (20)")
     parser.add_argument("--seed", type=whole, default=1, help="the seed of the series of runs (1)")
     parser.add_argument(
-        "--events", type=whole, default=10**9, help="the most events of a run (10^9)"
+        "--events", type=whole, default=10**7, help="the most events of a run (10^7)"
     )
     parser.add_argument("--start", type=wholes, default=(), metavar="V,V", help="starting values")
 

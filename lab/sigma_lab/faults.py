@@ -10,6 +10,7 @@ from . import probe
 from .blame import Blame, FaultingEvent
 from .carrying import carrying_of
 from .errors import NoEstimate
+from .plan import EVENTS
 from .probe import Run, Snapshot
 from .trace import TracedEvent, traced, written
 from .tree import EventGraph
@@ -127,7 +128,7 @@ def whyfault(
     until: int,
     seed: int,
     start: tuple[int, ...] = (),
-    events: int = probe.MOST_EVENTS,
+    events: int = EVENTS,
 ) -> Fault | Stuck:
     """Which event of a run faults, in which part and with what values; or what comes again and again in an endless run.
 

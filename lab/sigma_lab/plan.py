@@ -11,6 +11,9 @@ from .errors import InputError
 
 OnCut = Literal["raise", "keep"]
 
+EVENTS = 10**7
+"""The most events of a run where nobody says otherwise: what urgent events without end spend in a second."""
+
 
 @dataclass(frozen=True)
 class Plan:
@@ -27,7 +30,7 @@ class Plan:
     warm_up : int
         Areas, counts and times are counted from this tick on.
     events : int
-        The most events of a run, 1 to 2^40.
+        The most events of a run, 1 to 2^40.  Urgent events without end are cut off by it.
     start : sequence of int
         The starting values: those of the first vertex's parameters.
     workers : int, optional
@@ -50,7 +53,7 @@ class Plan:
     seed: int = 1
     runs: int = 100
     warm_up: int = 0
-    events: int = 10**9
+    events: int = EVENTS
     start: Sequence[int] = ()
     workers: int | None = None
     client: Any = None

@@ -10,7 +10,7 @@ from typing import Any
 import numpy as np
 
 from . import execution, program, report_text, seeds
-from .errors import IncompleteRuns, InputError, NoEstimate, Stopped, UnfilledTables
+from .errors import InputError, NoEstimate, Stopped, UnfilledTables, cut_off
 from .formula import Formula
 from .history import History, Note, notes_of
 from .observations import Observations
@@ -294,10 +294,7 @@ def observe_all(
     answers = execution.shared_out(_Watch(text, plan, wanted), numbers, plan, progress=progress)
     cut = [outcome for *_, outcome in answers if outcome in ("fault", "budget")]
     if cut and plan.on_cut == "raise":
-        raise IncompleteRuns(
-            f"of {plan.runs} runs {cut.count('fault')} ended by a fault and {cut.count('budget')} spent the budget: "
-            "values of what was cut off say nothing of whole runs"
-        )
+        raise cut_off(f"of {plan.runs} runs", cut.count("fault"), cut.count("budget"))
     given = np.array([seeds.spawn(plan.seed, number) for number in numbers], dtype=np.uint64)
     made = []
     for at, (event, _, _) in enumerate(wanted):

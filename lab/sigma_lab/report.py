@@ -11,7 +11,7 @@ import numpy as np
 from numpy.typing import NDArray
 
 from . import provenance, report_text
-from .errors import BadReport, IncompleteRuns, InputError
+from .errors import BadReport, InputError, cut_off
 from .plan import OnCut
 from .provenance import Provenance
 from .report_text import Columns, Number, number_text
@@ -145,10 +145,7 @@ class Report:
         """Raises IncompleteRuns if a run was cut off, unless `on_cut` is `keep`."""
         cut = self.cut_off()
         if self.on_cut == "raise" and any(cut.values()):
-            raise IncompleteRuns(
-                f"{self.label}: of {len(self)} runs {cut['fault']} ended by a fault and {cut['budget']} spent the "
-                "budget: values of what was cut off say nothing of whole runs"
-            )
+            raise cut_off(f"{self.label}: of {len(self)} runs", cut["fault"], cut["budget"])
 
     def front(self, runs: int) -> Report:
         """The report of the first `runs` runs."""

@@ -75,7 +75,7 @@ class Together:
     def __init__(self, graph: EventGraph, carrying: Carrying, pairs: set[Pair], run: Run) -> None:
         self._graph, self._carrying, self._pairs, self._run = graph, carrying, pairs, run
         self._looks: dict[int, list[probe.Pending]] = {}
-        self._made = probe.MOST_EVENTS
+        self._made = run.events
         self.counts = Counts()
 
     def count(self) -> Counts:

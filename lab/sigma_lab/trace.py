@@ -9,7 +9,8 @@ from dataclasses import dataclass
 from typing import TYPE_CHECKING
 
 from . import probe
-from .errors import InputError
+from .errors import InputError, NoEstimate
+from .plan import EVENTS
 from .probe import Snapshot
 from .tree import EventGraph, Set, Variable
 
@@ -17,6 +18,10 @@ if TYPE_CHECKING:
     import pandas as pd
 
     from .model import Model
+
+
+MOST_SHOWN = 100_000
+_MORE = "more events let it go on, and whyfault names urgent events without end"
 
 
 @dataclass(frozen=True)
@@ -51,13 +56,13 @@ class TracedEvent:
 
 @dataclass(frozen=True, repr=False)
 class Trace:
-    """The events between two ticks; `fault` is the last line of the history if an event faulted there."""
+    """The events between two ticks; `end` is what ended them before the last tick: a fault, or too many events."""
 
     events: list[TracedEvent]
-    fault: str | None = None
+    end: str | None = None
 
     def __str__(self) -> str:
-        return "\n".join([*map(str, self.events), *([self.fault] if self.fault else [])])
+        return "\n".join([*map(str, self.events), *([self.end] if self.end else [])])
 
     __repr__ = __str__
 
@@ -77,7 +82,7 @@ class Trace:
 
     def _repr_html_(self) -> str:
         table = str(self.frame.to_html(index=False, na_rep=""))
-        return table + (f"<p>{self.fault}</p>" if self.fault else "")
+        return table + (f"<p>{self.end}</p>" if self.end else "")
 
 
 def shown_cells(variable: Variable, values: list[int]) -> list[str]:
@@ -137,7 +142,7 @@ def trace(
     *,
     seed: int,
     start: tuple[int, ...] = (),
-    events: int = probe.MOST_EVENTS,
+    events: int = EVENTS,
     only: tuple[str, ...] = (),
 ) -> Trace:
     """The events from one tick to another, with what each carries and all that it changes.
@@ -159,6 +164,8 @@ def trace(
     ------
     InputError
         If the ticks are the wrong way round, or a variable isn't known.
+    NoEstimate
+        If the run has spent its events before the first tick.
     """
     if first > last:
         raise InputError(f"{first} is after {last}")
@@ -168,12 +175,18 @@ def trace(
         raise InputError(f"{graph.name} has no variable {unknown[0]}")
     run = probe.run_of(graph, last, seed, start, events)
     before = probe.ending(graph, run, first - 1) if first else None
-    if before is not None and before.outcome in ("fault", "ended", "budget"):
+    if before is not None and before.outcome == "budget":
+        raise NoEstimate(f"the run has spent its {events} events before tick {first}: {_MORE}")
+    if before is not None and before.outcome in ("fault", "ended"):
         return Trace([])
     done = before.events if before else 0
     snapshot = probe.saved(graph, run, done)
     if snapshot is None:
         return Trace([])
     watched = [name for name in written(graph) if not only or name in only]
-    found, end = traced(graph, snapshot, last, events - done, watched)
-    return Trace(found, end if end.startswith("fault") else None)
+    found, end = traced(graph, snapshot, last, min(events - done, MOST_SHOWN), watched)
+    if not end.startswith("budget"):
+        return Trace(found, end if end.startswith("fault") else None)
+    if events - done <= MOST_SHOWN:
+        return Trace(found, f"the run has spent its {events} events: {_MORE}")
+    return Trace(found, f"these are {MOST_SHOWN} events, and there are more: take a shorter time")

@@ -2,6 +2,7 @@
 
 from __future__ import annotations
 
+import time
 from collections.abc import Callable
 from pathlib import Path
 
@@ -193,6 +194,35 @@ def test_traces(lab: Lab, written: Callable[..., Path]) -> None:
     assert "required: --seed" in lab("trace", 4, 9, shop, status=2)
     wrong = written(example("shop").replace("FREE : bool", "FREE : 0..1"), "w.sigma")
     assert "kind mismatch" in lab("trace", 4, 9, wrong, "--seed", 7, status=1)
+
+
+ENDLESS = """model ENDLESS;
+var N : 0..1 = 0;
+watch N;
+vertex OPEN { schedule PING after 3; }
+vertex PING { set N := 1 - N; urgent PONG; }
+vertex PONG { urgent PING; }
+end
+"""
+
+
+def test_urgent_events_without_end(lab: Lab, written: Callable[..., Path]) -> None:
+    """Each command ends by itself, and says what goes on without end."""
+    path = written(ENDLESS)
+    began = time.monotonic()
+    said = lab("whyfault", path, "--until", 9, "--seed", 1)
+    assert "without end: PING -> PONG -> PING" in said or "PONG -> PING -> PONG" in said
+    assert "the budget of 10000000 events is spent" in said
+    shown = lab("trace", 0, 5, path, "--seed", 1).splitlines()
+    assert "there are more: take a shorter time" in shown[-1]
+    before = lab("trace", 6, 9, path, "--seed", 1, status=1)
+    assert "has spent its 10000000 events before tick 6" in before and "whyfault" in before
+    few = lab("trace", 0, 5, path, "--seed", 1, "--events", 50).splitlines()
+    assert "has spent its 50 events" in few[-1]
+    report = path.with_name("report")
+    lab("replicate", path, "--until", 9, "--runs", 2, "--keep", report)
+    assert "2 spent the budget" in lab("means", "N.average", report, status=3)
+    assert time.monotonic() - began < 100
 
 
 # Conflicts
