@@ -59,6 +59,15 @@ def crates() -> list[Crate]:
     return found
 
 
+def users(page: Path) -> str:
+    """Write which crates use the crate whose page this is."""
+    name = page.parent.name
+    lines = [line.partition(":") for line in (TOP / "crates.txt").read_text().splitlines()]
+    found = [head.split(" ")[0] for head, _, below in lines if name in below.split()]
+    links = [crate.link(page) for crate in crates() if crate.name in found]
+    return f"Used by {', '.join(links)}." if links else "No crate uses it."
+
+
 def groups() -> list[str]:
     """List the groups of crates.txt in their order."""
     return list(dict.fromkeys(crate.group for crate in crates()))

@@ -14,6 +14,7 @@ from writing.parts import Writer, rewritten
 WRITERS: dict[str, Writer] = {
     "crates": crates.purposes,
     "crates' promises": crates.promises,
+    "users": crates.users,
     "wrong bodies": crates.wrong_bodies,
     "number of wrong bodies": crates.counts,
     "commands": calls.commands,
