@@ -13,5 +13,6 @@ pub mod ConditionTrees
 pub mod EnoughSteps
 pub mod NotedChecks
 pub mod ValuedTrees
+pub mod StoppedTrees
 pub mod BegunVertices
 pub mod AgreeingTrees

@@ -50,7 +50,7 @@ module _ (v : Valuation) (ground : Ground) (meets : Meets ground v) where
 
   -- ---- operators
 
-  operator-failed : (f : FaultKind) (op : Operator) (guard a b : CaseTree) (n : Noted) → FailedIn v f n → Gives (operator ground op guard a b n) (FailedAfter v f)
+  pub operator-failed : (f : FaultKind) (op : Operator) (guard a b : CaseTree) (n : Noted) → FailedIn v f n → Gives (operator ground op guard a b n) (FailedAfter v f)
   operator-failed f Add guard a b n failed = checked-failed v ground meets f guard n _ failed
   operator-failed f Subtract guard a b n failed = checked-failed v ground meets f guard n _ failed
   operator-failed f Multiply guard a b n failed = checked-failed v ground meets f guard n _ failed

@@ -1,0 +1,3 @@
+pub mod PairsOfTwins
+pub mod Shuffled
+pub mod AskedKinds
