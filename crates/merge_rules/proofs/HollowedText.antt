@@ -16,19 +16,22 @@ use Rattle.model_core.proofs.AllHold.{every-holds}
 use Rattle.model_core.proofs.Among.{either_true, first_true, second_true}
 use Rattle.model_core.proofs.BothTrue.{and_first, and_second}
 use Rattle.model_core.proofs.PlacesChanged.{length_placed, placed-elsewhere, placed-there, suc-apart, apart-turned}
-use Rattle.merge_rules.specs.Growth.{body_lines, bytes_leaving}
+use Rattle.vertex_laws.specs.BodyLines.{body_lines}
+use Rattle.merge_rules.specs.Growth.{bytes_leaving}
 use Rattle.merge_rules.specs.Hollowed.{hollow, hollowed, second_after_merge, merged_leaving}
 use Rattle.merge_rules.specs.declared.taking_over.SecondVertex.{SecondVertex}
 use Rattle.merge_rules.specs.declared.taking_over.SecondVertex.TheVariants as seconds
 use Rattle.merge_rules.proofs.OneStepForTwo.MergeHolds.{conditions_hold, first_there, is_below}
-use Rattle.merge_rules.proofs.SingleUrgentModels.SingleKept.{apart_placed, merged_single}
+use Rattle.vertex_laws.proofs.ApartVertices.{apart_placed}
+use Rattle.merge_rules.proofs.SingleUrgentModels.SingleKept.{merged_single}
 use Rattle.merge_rules.proofs.ConditionsAsked.PairsFound.{counted_whole}
 use Rattle.mark_laws.proofs.MarksBelow.{same_mark}
-use Rattle.merge_rules.proofs.MergedText.VersionMerged.{gained, joined-late, at_place, needed-merged}
-use Rattle.merge_rules.proofs.MergedText.MergedLength.{lines_length, changed_length, body_elsewhere}
+use Rattle.vertex_laws.proofs.NeededVersion.{gained}
+use Rattle.merge_rules.proofs.MergedText.VersionMerged.{joined-late, at_place, needed-merged}
+use Rattle.vertex_laws.proofs.ChangedLines.{lines_length, changed_length, body_elsewhere}
 use Rattle.merge_rules.proofs.MergedText.GrownTexts.{there-is}
 use Rattle.merge_rules.proofs.MergedText.LimitsTested.{with_merged}
-use Rattle.merge_rules.proofs.MergedText.ValidMerged.{name_stays}
+use Rattle.vertex_laws.proofs.MergedNames.{name_stays}
 
 -- the two are two
 pub two_apart : (g : EventGraph) (first second : ℕ) → first_failed (merge_conditions g first second) ≡ None → (first == second) ≡ false

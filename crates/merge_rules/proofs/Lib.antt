@@ -6,4 +6,3 @@ pub mod ConditionsAsked
 pub mod PairsBetweenMerges
 pub mod HollowedText
 pub mod BodiesKept
-pub mod EdgesChanged

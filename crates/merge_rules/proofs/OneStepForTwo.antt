@@ -7,5 +7,4 @@ pub mod MergedRuns
 pub mod MergedModels
 pub mod MergeHolds
 pub mod MergeNeeds
-pub mod PlacedElement
 pub mod MergeResult

@@ -1,21 +1,19 @@
 -- By how much a merge of a vertex with the target of its plain urgent edge makes the canonical text longer: it gets the lines
 -- of what the target does, and loses that of the edge.
-use Rattle.std.specs.Prelude.{ℕ, ◌-◌, ◌^◌, cond, List, ◌++◌, length, min, Option, Some, None}
+use Rattle.std.specs.Prelude.{ℕ, cond, List, ◌++◌, length, Option, Some, None}
 use Rattle.std.specs.List.{flat_map}
 use Rattle.std.specs.Option.{option_map_or}
-use Rattle.model_core.specs.EventGraph.{EventGraph, EventVertex, EventEdge}
+use Rattle.model_core.specs.EventGraph.{EventGraph, EventEdge}
 use Rattle.model_core.specs.Run.Step.{vertex_at}
 use Rattle.model_core.specs.Text.Canonical.{change_line, edge_line}
 use Rattle.model_core.specs.Rules.UrgentEdges.{plain_urgent_edge}
 use Rattle.model_core.specs.Rules.Merge.{set_parameters}
+use Rattle.vertex_laws.specs.BodyLines.{body_lines}
+use Rattle.model_facts.specs.KnownLengths.{capped}
 use Rattle.merge_rules.specs.PairFits.{pair_fits}
 use Rattle.merge_rules.specs.declared.growth.Growth.{Growth}
 use Rattle.merge_rules.specs.declared.taking_over.SecondVertex.{SecondVertex}
 use Rattle.merge_rules.specs.declared.taking_over.SecondVertex.TheVariants as seconds
-
--- the lines of a vertex's changes and edges
-abbrev pub body_lines : EventGraph → EventVertex → List ℕ
-body_lines g v = flat_map (change_line g) v.changes ++ flat_map (edge_line g) v.edges
 
 -- the line by which the parameters of the target of this edge take the edge's values, where there are any
 abbrev pub lines_set : EventGraph → EventEdge → List ℕ
@@ -35,10 +33,6 @@ bytes_set g first = option_map_or (λ e. length (lines_set g e)) (plain_urgent_e
 
 abbrev pub bytes_gone : EventGraph → ℕ → ℕ
 bytes_gone g first = option_map_or (λ e. length (edge_line g e)) (plain_urgent_edge (vertex_at g first)) 0
-
--- a number of bytes, or 2^64 - 1 where there are more
-abbrev pub capped : ℕ → ℕ
-capped n = min n (2 ^ 64 - 1)
 
 -- both numbers
 abbrev pub growth : EventGraph → ℕ → Growth

@@ -1,4 +1,3 @@
 -- The code of this crate, restated for its proofs. No public clause cites these.
-pub mod HasFewerBytes
 pub mod PairMoves
 pub mod ReadingEdges

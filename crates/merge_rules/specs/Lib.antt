@@ -3,7 +3,4 @@ pub mod Inner
 pub mod PairFits
 pub mod Growth
 pub mod Hollowed
-pub mod FactsOfModel
-pub mod FactsAfterEdge
-pub mod NothingCounted
 pub mod UrgentVertices

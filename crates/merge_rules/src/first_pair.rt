@@ -7,13 +7,13 @@ ghost use Rattle.model_core.specs.Run.Step.{vertex_at};
 ghost use Rattle.model_core.specs.Rules.UrgentEdges.{plain_urgent_edge};
 ghost use Rattle.model_core.specs.Rules.Merge.{merge_at, first_merge};
 ghost use Rattle.model_core.specs.Code.Views.{graph_of, vertex_of};
-ghost use Rattle.merge_rules.specs.FactsOfModel.{FactsAreRight};
+ghost use Rattle.model_facts.specs.FactsOfModel.{FactsAreRight};
 
 use crate::at_once::edge_at_once;
-use crate::facts::FactsOfModel;
 use crate::merging::failed_merge;
 use crate::reads_written::{ReadsWritten, Walk};
 use model_core::{Model, Vertex};
+use model_facts::FactsOfModel;
 
 /// The place of the vertex to which the plain urgent edge leads, if there is one.
 pub(crate) fn target_at_once(vertex: &Vertex) -> Option<usize>

@@ -3,13 +3,17 @@
 ghost use Rattle.std.specs.Prelude.{◌≡◌, ◌<◌, None, length, take};
 ghost use Rattle.model_core.specs.Run.Step.{vertex_at};
 ghost use Rattle.model_core.specs.Rules.Conditions.{first_failed};
-ghost use Rattle.model_core.specs.Rules.Merge.{merge_conditions};
+ghost use Rattle.model_core.specs.Rules.Merge.{merge_conditions, merged};
 ghost use Rattle.model_core.specs.Code.Views.{graph_of};
-ghost use Rattle.merge_rules.specs.Growth.{body_lines, capped, growth};
+ghost use Rattle.vertex_laws.specs.BodyLines.{body_lines};
+ghost use Rattle.model_facts.specs.KnownLengths.{capped, LengthIsRight};
+ghost use Rattle.model_facts.specs.FactsOfModel.{FactsAreRight};
+ghost use Rattle.merge_rules.specs.Growth.{growth};
 
 use crate::within_limits::urgent_place;
 use model_core::Model;
-use model_print::{body_length, edge_length, set_length};
+use model_facts::FactsOfModel;
+use model_print::{edge_length, set_length};
 
 /// How many bytes a merge adds to the canonical text, and how many it takes from it. Each is 2^64 - 1 where there are more.
 #[derive(Clone, Copy)]
@@ -18,16 +22,6 @@ pub(crate) struct Growth {
     pub(crate) added: u64,
     /// Of the line of its plain urgent edge.
     pub(crate) gone: u64,
-}
-
-/// How many bytes the lines of the changes and edges of the vertex at this place have, or 2^64 - 1 where they have more.
-pub(crate) fn body_at(model: &Model, vertex: usize) -> u64
-    requires { vertex < length model.now.vertices }
-    ensures { result
-        ≡ capped (length
-        (body_lines (graph_of model.now) (vertex_at (graph_of model.now) vertex))) }
-{
-    body_length(&model.vertices.as_slice()[vertex], model)
 }
 
 /// How a merge of the two changes the length, where the lines of the second one's changes and edges have so many bytes.
@@ -47,4 +41,28 @@ pub(crate) fn grows_by(model: &Model, first: usize, second: usize, body: u64) ->
         added: set_length(params, edge.values.as_slice(), model).saturating_add(body),
         gone: edge_length(edge, model),
     }
+}
+
+/// How many bytes the lines of what the first vertex does have after a merge of the two, found before it, or None where they are
+/// too many to count.
+pub(crate) fn merged_body(
+    facts: &mut FactsOfModel,
+    model: &Model,
+    first: usize,
+    second: usize,
+    grows: Growth,
+) -> Option<u64>
+    requires facts { FactsAreRight (graph_of model.now) facts.old }
+    requires holds { first_failed (merge_conditions (graph_of model.now) first second) ≡ None }
+    requires grows { grows ≡ growth (graph_of model.now) first }
+    ensures is { LengthIsRight result
+        (body_lines (merged (graph_of model.now) first second)
+        (vertex_at (merged (graph_of model.now) first second) first)) }
+    ensures facts { FactsAreRight (graph_of model.now) facts.new }
+{
+    let body = facts.find_body(model, first);
+    if body == u64::MAX {
+        return None;
+    }
+    Some((body - grows.gone).saturating_add(grows.added))
 }

@@ -10,14 +10,13 @@ ghost use Rattle.model_core.specs.Rules.Drop.{dropped};
 ghost use Rattle.model_core.specs.Rules.UrgentEdges.{single_urgent};
 ghost use Rattle.model_core.specs.Rules.Merge.{is_watched_vertex, merge_conditions, merged, merge_at, first_merge};
 ghost use Rattle.model_core.specs.Code.Views.{graph_of, edge_of};
-ghost use Rattle.merge_rules.specs.FactsOfModel.{FactsAreRight};
-ghost use Rattle.merge_rules.specs.NothingCounted.{NothingCounted};
+ghost use Rattle.model_facts.specs.FactsOfModel.{FactsAreRight};
+ghost use Rattle.model_facts.specs.NothingCounted.{NothingCounted};
 ghost use Rattle.merge_rules.specs.PairFits.{target_at_once, acts_unseen, pair_fits};
 ghost use Rattle.merge_rules.specs.Growth.{pair_growth};
 ghost use Rattle.merge_rules.specs.KeptPairs.{has_incoming, FitIsRight, UnseenIsRight, PairsAreRight};
 
 use crate::conditions::{acts_unseen_at, failed_before_limits};
-use crate::facts::FactsOfModel;
 use crate::growth::{Growth, grows_by};
 use crate::kept_pairs::{
     KeptPair, PairAnswer, add_all_edges, fresh_pairs, move_up, take_edges, take_over_pairs,
@@ -25,6 +24,7 @@ use crate::kept_pairs::{
 use crate::law::merging_keeps_the_meaning;
 use crate::within_limits::{has_short_text, keeps_few_parts};
 use model_core::{Edge, Model, is_watched};
+use model_facts::FactsOfModel;
 use round_trip::validity_is_by_parts;
 use sig_base::NoMemory;
 use std::alloc::Global;

@@ -14,9 +14,7 @@ ghost use Rattle.model_core.specs.Rules.Settle.{first_settle};
 ghost use Rattle.model_core.specs.Rules.UrgentEdges.{single_urgent};
 ghost use Rattle.model_core.specs.Rules.Merge.{merge_conditions, merged};
 ghost use Rattle.model_core.specs.Rules.BetweenSteps.{IsSettled};
-ghost use Rattle.use_analysis.specs.UseNumbers.{UseNumbers, no_numbers};
 ghost use Rattle.merge_rules.specs.Growth.{bytes_added, bytes_gone};
-ghost use Rattle.merge_rules.specs.NothingCounted.{NothingCounted};
 ghost use Rattle.merge_rules.specs.UrgentVertices.{plain_count};
 
 use range_bounds::{exclusive_conditions_are_never_both_true, quiet_parts_have_no_fault};
@@ -76,10 +74,4 @@ pub fn merging_adds_the_growth()
         → first_failed (take 7 (merge_conditions g first second)) ≡ None
         → length (canonical (merged g first second)) + bytes_gone g first
         ≡ length (canonical g) + bytes_added g first }
-{}
-
-/// New counts of uses have nothing counted.
-pub fn new_counts_count_nothing()
-    ensures { (variables : ℕ) (counts : UseNumbers) → counts ≡ no_numbers variables
-        → NothingCounted variables counts }
 {}

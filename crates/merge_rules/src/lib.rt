@@ -2,10 +2,7 @@
 #![tactic(auto)]
 
 mod at_once;
-mod bodies;
 mod conditions;
-mod edge_facts;
-mod facts;
 mod first_pair;
 mod growth;
 mod kept_pairs;
@@ -17,14 +14,11 @@ mod reads_written;
 mod taking_over;
 mod within_limits;
 
-pub use bodies::Bodies;
-pub use edge_facts::{keep_after_prune, keep_after_settle};
-pub use facts::FactsOfModel;
 pub use first_pair::first_merge;
 pub use kept_search::KeptPairs;
 pub use law::{
     at_most_one_event_is_urgent, merging_adds_the_growth, merging_brings_no_rule_of_edges,
-    merging_keeps_the_meaning, merging_takes_an_urgent_edge, new_counts_count_nothing,
+    merging_keeps_the_meaning, merging_takes_an_urgent_edge,
 };
 pub use merging::{merge, merge_holding, merge_measured};
 pub use taking_over::SecondVertex;

@@ -8,16 +8,16 @@ ghost use Rattle.model_core.specs.Rules.Merge.{merge_conditions, merged};
 ghost use Rattle.model_core.specs.Code.Views.{graph_of};
 ghost use Rattle.merge_rules.specs.Growth.{bytes_leaving};
 ghost use Rattle.merge_rules.specs.Hollowed.{merged_leaving};
-ghost use Rattle.merge_rules.specs.FactsOfModel.{FactsAreRight, text_length};
-ghost use Rattle.merge_rules.specs.NothingCounted.{NothingCounted};
+ghost use Rattle.model_facts.specs.FactsOfModel.{FactsAreRight, text_length};
+ghost use Rattle.model_facts.specs.NothingCounted.{NothingCounted};
 
 use crate::conditions::failed_before_limits;
-use crate::facts::{FactsOfModel, version_length};
-use crate::growth::grows_by;
+use crate::growth::{grows_by, merged_body};
 use crate::reads_written::ReadsWritten;
 use crate::taking_over::{SecondVertex, put_together};
 use crate::within_limits::{is_within_limits, merged_length, urgent_place};
 use model_core::{Model, RuleError};
+use model_facts::{FactsOfModel, version_length};
 use sig_base::NoMemory;
 use std::alloc::Global;
 use use_analysis::UseCounts;
@@ -78,7 +78,7 @@ pub fn merge_holding(
 {
     let body = facts.find_body(model, target);
     let grows = grows_by(model, vertex, target, body);
-    let merged_body = facts.find_merged_body(model, vertex, target, grows);
+    let joined = merged_body(facts, model, vertex, target, grows);
     let version = version_length(facts.find_version(model));
     let bytes = merged_length(model, facts.text_length(), vertex, target, grows);
     let place = urgent_place(&model.vertices.as_slice()[vertex]);
@@ -86,7 +86,7 @@ pub fn merge_holding(
     let gone = bytes_leaving(second, body);
     facts.lines = Some(bytes - gone - version);
     facts.single = Some(true);
-    facts.bodies.put(vertex, merged_body);
+    facts.bodies.put(vertex, joined);
     facts.bodies.put(target, Some(body - gone));
     Ok(())
 }

@@ -5,7 +5,7 @@ ghost use Rattle.std.specs.Prelude.{◌≡◌, ◌+◌, ◌^◌, ◌<◌, ◌≤
 ghost use Rattle.std.specs.List.{list_any};
 ghost use Rattle.model_core.specs.Rules.Uses.{vertex_writes};
 ghost use Rattle.model_core.specs.Code.Views.{edge_of, vertex_of};
-ghost use Rattle.merge_rules.specs.NothingCounted.{NothingCounted};
+ghost use Rattle.model_facts.specs.NothingCounted.{NothingCounted};
 ghost use Rattle.merge_rules.specs.Inner.ReadingEdges.{reads_it, reads_one_of, counted, uncounted, is_read_by_counts};
 
 use model_core::{Edge, Model, Vertex};

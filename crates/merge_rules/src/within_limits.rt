@@ -10,12 +10,13 @@ ghost use Rattle.model_core.specs.Rules.Conditions.{first_failed};
 ghost use Rattle.model_core.specs.Rules.UrgentEdges.{plain_urgent};
 ghost use Rattle.model_core.specs.Rules.Merge.{set_parameters, merged_with, merged, has_few_parts, is_within_limits, merge_conditions};
 ghost use Rattle.model_core.specs.Code.Views.{graph_of, vertex_of};
-ghost use Rattle.merge_rules.specs.FactsOfModel.{TextLengthIsRight, FactsAreRight};
-ghost use Rattle.merge_rules.specs.Growth.{bytes_gone, capped, growth};
+ghost use Rattle.model_facts.specs.FactsOfModel.{TextLengthIsRight, FactsAreRight};
+ghost use Rattle.merge_rules.specs.Growth.{bytes_gone, growth};
+ghost use Rattle.model_facts.specs.KnownLengths.{capped};
 
-use crate::facts::FactsOfModel;
 use crate::growth::{Growth, grows_by};
 use model_core::{Model, Vertex};
+use model_facts::FactsOfModel;
 use model_print::length_without_edge;
 use range_bounds::plain_urgent;
 use sig_base::{CHANGES_MAX, EDGES_MAX, TEXT_MAX};

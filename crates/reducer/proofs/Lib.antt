@@ -10,5 +10,5 @@ pub mod StrategyEnds
 pub mod RuleByRule
 pub mod WholeStrategy
 pub mod SweepCode
-pub mod ProgressKept
-pub mod CountsServe
+pub mod ProgressAfterMerge
+pub mod CountsForCode

@@ -1,5 +1,5 @@
 -- The code of this crate, restated for its proofs. No public clause cites these.
 pub mod Sweep
 pub mod LaterRules
-pub mod Progress
+pub mod Merging
 pub mod UnfinishedReduction

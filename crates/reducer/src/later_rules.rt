@@ -1,6 +1,6 @@
-//! The rules after those of edges: drop, merge and slice, one application at a time, but that a merge and a drop of its second
-//! vertex alone are made together. Between two applications it is kept what is known of the model: after a merge only what can
-//! have changed is looked at again.
+//! The rules after those of edges: drop, merge and slice, one application at a time. A merge and the drop of its second vertex are
+//! made together if that vertex alone can't be reached any more. What is known of the model is kept between two applications:
+//! after a merge only what can have changed is looked at again.
 
 ghost use Rattle.std.specs.Prelude.{◌≡◌, [], ◌∷◌, ◌++◌, map, length, OnOk, IfOk, true};
 ghost use Rattle.model_core.specs.Static.Reading.{IsValid};
@@ -9,13 +9,13 @@ ghost use Rattle.model_core.specs.Rules.Reached.{unreached};
 ghost use Rattle.model_core.specs.Text.Canonical.{vertex_name};
 ghost use Rattle.model_core.specs.Rules.Drop.{dropped};
 ghost use Rattle.model_core.specs.Rules.Merge.{merged};
-ghost use Rattle.model_core.specs.Rules.Reduction.{Drop, first_rule};
+ghost use Rattle.model_core.specs.Rules.Reduction.{Drop, Merge, first_rule};
 ghost use Rattle.reducer.specs.Inner.LaterRules.{NoEdgeRule, IsStrategyNoted};
-ghost use Rattle.reducer.specs.Inner.Progress.{OnlyUnreached, IsMerging};
+ghost use Rattle.reducer.specs.Inner.Merging.{OnlyUnreached, IsMerging};
 ghost use Rattle.reducer.specs.Inner.UnfinishedReduction.{drop_rule, merge_rule, slice_rule, IsUnfinishedReduction, ByRule, ByRuleThenDrop, IsMerged, MadeByRule};
 
 use crate::naming::{Declared, name_at, names_at};
-use crate::progress::{Progress, is_left_alone};
+use crate::reached_after_merge::leaves_second_unreached;
 use crate::strategy::Reduced;
 use crate::strategy_law::later_rules_leave_edges;
 use edge_pruning::{
@@ -25,17 +25,20 @@ use merge_rules::{
     KeptPairs, SecondVertex, merge_holding, merging_keeps_the_meaning, merging_takes_an_urgent_edge,
 };
 use model_core::{Application, Model, was_made};
-use reduction_cert::{chains_keep_the_meaning, keep_after_drop};
+use model_facts::{Progress, keep_after_drop};
+use reduction_cert::chains_keep_the_meaning;
 use sig_base::{List, NoMemory};
 use std::alloc::Global;
 use var_slicing::{slice, unneeded};
 
-/// A model while rules are applied to it, the applications that were noted, and what is known of it.
+/// A model while rules are applied to it, the applications that were noted, what is known of it, and what is kept of each vertex
+/// to find the next merge.
 #[derive(Drop)]
 pub(crate) struct UnfinishedReduction {
     model: Model,
     applications: Vec<Application>,
     progress: Progress,
+    pairs: KeptPairs,
 }
 
 /// Applies the first rule again and again, until none is applicable, where no rule of edges is, and notes that after the earlier
@@ -55,16 +58,19 @@ pub(crate) fn apply_later_rules(
     later_rules_leave_edges();
     merging_takes_an_urgent_edge();
     let progress = Progress::begin(alloc, &model)?;
+    let pairs = KeptPairs::begin(alloc, &model)?;
     let mut underway = UnfinishedReduction {
         model,
         applications,
         progress,
+        pairs,
     };
     while underway.apply_one(alloc)? {}
     let UnfinishedReduction {
         model,
         applications,
         progress: _,
+        pairs: _,
     } = underway;
     Ok(Reduced {
         model,
@@ -87,6 +93,26 @@ fn note_drop(
     applications.push(Application::Drop {
         vertices: List::from_vec(names),
     })?;
+    Ok(())
+}
+
+/// Notes that these two vertices of the model are merged.
+fn note_merge(
+    alloc: Global,
+    model: &Model,
+    applications: &mut Vec<Application>,
+    first: usize,
+    second: usize,
+) -> Result<(), NoMemory>
+    ensures { OnOk result (map application_of applications.new.items
+        ≡ map application_of applications.old.items
+        ++ Merge
+        (vertex_name (graph_of model.now) first) (vertex_name (graph_of model.now) second)
+        ∷ []) }
+{
+    let vertex = name_at(alloc, model, Declared::Vertices, first)?;
+    let target = name_at(alloc, model, Declared::Vertices, second)?;
+    applications.push(Application::Merge { vertex, target })?;
     Ok(())
 }
 
@@ -132,7 +158,7 @@ impl UnfinishedReduction {
         }
         self.drop_listed(alloc, &vertices)?;
         self.progress.facts.keep_single_after_drop();
-        self.progress.pairs = KeptPairs::begin(alloc, &self.model)?;
+        self.pairs = KeptPairs::begin(alloc, &self.model)?;
         Ok(true)
     }
 
@@ -146,6 +172,7 @@ impl UnfinishedReduction {
             (graph_of self.new.model ≡ dropped (graph_of self.old.model) vertices.now) }
         ensures all { OnOk result (unreached (graph_of self.new.model) ≡ []) }
         ensures progress { self.new.progress ≡ self.old.progress }
+        ensures pairs { self.new.pairs ≡ self.old.pairs }
     {
         dropping_keeps_the_meaning();
         note_drop(alloc, &self.model, &mut self.applications, vertices)?;
@@ -160,51 +187,53 @@ impl UnfinishedReduction {
         ensures { IfOk result (λ made. ByRuleThenDrop merge_rule made self.old self.new) }
     {
         let progress = &mut self.progress;
-        let Some((first, second)) = progress
+        let Some((first, second)) = self
             .pairs
             .first_merge(&self.model, &mut progress.facts, &mut progress.counts)
         else {
             return Ok(false);
         };
-        let vertex = name_at(alloc, &self.model, Declared::Vertices, first)?;
-        let target = name_at(alloc, &self.model, Declared::Vertices, second)?;
-        self.applications
-            .push(Application::Merge { vertex, target })?;
-        progress.pairs.note_merge(&self.model, first, second)?;
+        self.pairs.note_merge(&self.model, first, second)?;
         self.merge_pair(alloc, first, second)?;
         Ok(true)
     }
 
-    /// Merges these two, which is noted in the certificate and in what is kept.
+    /// Merges these two, for which what is kept of the vertices is ready, and notes that.
     fn merge_pair(&mut self, alloc: Global, first: usize, second: usize) -> Result<(), NoMemory>
         requires valid { IsValid (graph_of self.old.model) }
         requires all { unreached (graph_of self.old.model) ≡ [] }
-        requires merging { IsMerging (graph_of self.old.model) first second self.old.progress }
+        requires merging { IsMerging
+            (graph_of self.old.model) first second self.old.progress self.old.pairs }
         ensures { OnOk result (IsMerged first second self.old self.new) }
     {
-        if is_left_alone(&self.progress.pairs, second) {
+        if leaves_second_unreached(&self.pairs, second) {
             self.merge_and_drop(alloc, first, second)
         } else {
-            self.merge_alone(alloc, first, second)
+            self.merge_and_keep(alloc, first, second)
         }
     }
 
-    /// Merges these two, where all vertices can be reached then.
-    fn merge_alone(&mut self, alloc: Global, first: usize, second: usize) -> Result<(), NoMemory>
-        requires merging { IsMerging (graph_of self.old.model) first second self.old.progress }
+    /// Merges these two, where all vertices can be reached then, and notes that.
+    fn merge_and_keep(&mut self, alloc: Global, first: usize, second: usize) -> Result<(), NoMemory>
+        requires merging { IsMerging
+            (graph_of self.old.model) first second self.old.progress self.old.pairs }
         requires all { unreached (merged (graph_of self.old.model) first second) ≡ [] }
         ensures { OnOk result (IsMerged first second self.old self.new) }
     {
-        self.progress.all_reached = true;
         let facts = &mut self.progress.facts;
         let left = SecondVertex::Stays;
-        merge_holding(alloc, &mut self.model, facts, first, second, left)
+        merge_holding(alloc, &mut self.model, facts, first, second, left)?;
+        note_merge(alloc, &self.model, &mut self.applications, first, second)?;
+        self.progress.all_reached = true;
+        Ok(())
     }
 
-    /// Merges these two, where the second one alone can't be reached then: it gives away what it does, and is dropped.
+    /// Merges these two, where the second one alone can't be reached then: it gives away what it does, and is dropped. Both are
+    /// noted.
     fn merge_and_drop(&mut self, alloc: Global, first: usize, second: usize) -> Result<(), NoMemory>
         requires valid { IsValid (graph_of self.old.model) }
-        requires merging { IsMerging (graph_of self.old.model) first second self.old.progress }
+        requires merging { IsMerging
+            (graph_of self.old.model) first second self.old.progress self.old.pairs }
         requires alone { OnlyUnreached (merged (graph_of self.old.model) first second) second }
         ensures { OnOk result (IsMerged first second self.old self.new) }
     {
@@ -212,16 +241,14 @@ impl UnfinishedReduction {
         dropping_keeps_the_meaning();
         dropping_takes_no_notice_of_the_vertex();
         let gone = List::from_vec(Vec::from_elem(alloc, second, 1)?);
-        let progress = &mut self.progress;
-        progress
-            .pairs
-            .note_drop_after_merge(&self.model, first, second);
-        let facts = &mut progress.facts;
+        self.pairs.note_drop_after_merge(&self.model, first, second);
+        let facts = &mut self.progress.facts;
         let left = SecondVertex::GivesAway;
         merge_holding(alloc, &mut self.model, facts, first, second, left)?;
+        note_merge(alloc, &self.model, &mut self.applications, first, second)?;
         note_drop(alloc, &self.model, &mut self.applications, &gone)?;
-        keep_after_drop(&self.model, &mut progress.facts, gone.as_slice());
-        progress.all_reached = true;
+        keep_after_drop(&self.model, &mut self.progress.facts, gone.as_slice());
+        self.progress.all_reached = true;
         drop_unreached(alloc, &mut self.model, &gone)
     }
 
@@ -240,6 +267,7 @@ impl UnfinishedReduction {
         })?;
         let made = was_made(slice(alloc, &mut self.model, &vars))?;
         self.progress = Progress::begin(alloc, &self.model)?;
+        self.pairs = KeptPairs::begin(alloc, &self.model)?;
         Ok(made)
     }
 }

@@ -3,7 +3,7 @@
 
 mod later_rules;
 mod naming;
-mod progress;
+mod reached_after_merge;
 mod strategy;
 mod strategy_law;
 mod sweeping;

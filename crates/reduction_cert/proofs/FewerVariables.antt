@@ -13,7 +13,7 @@ use Rattle.model_core.specs.Rules.Slice.{sliced}
 use Rattle.model_core.specs.Rules.Reduction.{RuleApplication, Prune, Settle, Drop, Merge, Slice, edge_named, vertices_named, two_vertices_named, variables_named, result_of, applied}
 use Rattle.model_core.proofs.SomeOfAList.{some-few, some-marked_of}
 use Rattle.use_analysis.specs.UseNumbers.{UseNumbers}
-use Rattle.merge_rules.specs.NothingCounted.{NothingCounted}
+use Rattle.model_facts.specs.NothingCounted.{NothingCounted}
 use Rattle.reduction_cert.proofs.Chains.{applied-is}
 
 few_or : {P : Type 0} (g : EventGraph) (o : Option P) (result : P → EventGraph) → ((p : P) → length (result p).variables ≤ length g.variables) → length (option_map_or result o g).variables ≤ length g.variables

@@ -3,9 +3,7 @@ pub mod Verdicts
 mod CertificateReads
 pub mod PlacesByTable
 pub mod NamesKept
-mod OneMore
+mod ApplicationLoops
 pub mod FewerVariables
 pub mod RuleAnswers
-pub mod LengthLeft
-pub mod BodiesLeft
 pub mod SameAfterDrop

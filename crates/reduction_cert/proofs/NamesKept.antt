@@ -7,13 +7,13 @@ use Rattle.model_core.specs.Run.Step.{vertex_at}
 use Rattle.model_core.specs.Rules.PlacedEdges.{with_place}
 use Rattle.model_core.specs.Rules.Prune.{without_edge, pruned}
 use Rattle.model_core.specs.Rules.Settle.{with_settled, settled}
-use Rattle.model_core.specs.Rules.UrgentEdges.{plain_urgent}
-use Rattle.model_core.specs.Rules.Merge.{values_at_once, merged_vertex, merged_with, merged}
+use Rattle.model_core.specs.Rules.Merge.{merged_with, merged}
 use Rattle.model_core.specs.Rules.Slice.{sliced_vertex, sliced}
 use Rattle.model_core.specs.Rules.Reduction.{RuleApplication, Prune, Settle, Drop, Merge, Slice, edge_named, two_vertices_named, variables_named, result_of, applied}
 use Rattle.model_core.proofs.PlacesChanged.{map_placed}
+use Rattle.vertex_laws.proofs.MergedNames.{name_stays}
 use Rattle.model_read.specs.NamesPlaced.{HasPlaces, names_of_vertices}
-use Rattle.reduction_cert.specs.Inner.DroppingOnes.{is_drop}
+use Rattle.reduction_cert.specs.Inner.DropApplications.{is_drop}
 use Rattle.reduction_cert.proofs.Chains.{applied-is}
 
 abbrev names : EventGraph → List (List ℕ)
@@ -27,15 +27,11 @@ kept_or g (Some p) result kept = kept p
 pub placed_kept : (f : EventVertex → EventVertex) → ((v : EventVertex) → (f v).name ≡ v.name) → (k : ℕ) (vs : List EventVertex) → names_of_vertices (with_place f k vs) ≡ names_of_vertices vs
 placed_kept f same k vs = map_placed (λ (v : EventVertex). v.name) f same k vs
 
-pub merged_name : (b a : EventVertex) (o : Option ℕ) → (option_map_or (merged_vertex b (values_at_once a) a) o a).name ≡ a.name
-merged_name b a None = refl
-merged_name b a (Some edge) = refl
-
 result_names : (g : EventGraph) (a : RuleApplication) → is_drop a ≡ false → names (result_of g a) ≡ names g
 result_names g (Prune name number) e = kept_or g (edge_named g name number) (λ (vertex, edge). pruned g vertex edge) (λ (vertex, edge). placed_kept (without_edge edge) (λ v. refl) vertex g.vertices)
 result_names g (Settle name number) e = kept_or g (edge_named g name number) (λ (vertex, edge). settled g vertex edge) (λ (vertex, edge). placed_kept (with_settled edge) (λ v. refl) vertex g.vertices)
 result_names g (Drop dropped) e = cc
-result_names g (Merge name target) e = kept_or g (two_vertices_named g name target) (λ (first, second). merged g first second) (λ (first, second). placed_kept (merged_with (vertex_at g second)) (λ v. merged_name (vertex_at g second) v (plain_urgent v)) first g.vertices)
+result_names g (Merge name target) e = kept_or g (two_vertices_named g name target) (λ (first, second). merged g first second) (λ (first, second). placed_kept (merged_with (vertex_at g second)) (name_stays (vertex_at g second)) first g.vertices)
 result_names g (Slice variables) e = kept_or g (variables_named g variables) (λ vars. sliced g vars) (λ vars. map-map (λ (v : EventVertex). v.name) (sliced_vertex g _) g.vertices)
 
 pub table_kept : (g h : EventGraph) (a : RuleApplication) (table : List (List ℕ × ℕ)) → is_drop a ≡ false → applied g a ≡ Some h → HasPlaces (names_of_vertices g.vertices) table → HasPlaces (names_of_vertices h.vertices) table

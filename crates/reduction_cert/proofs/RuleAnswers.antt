@@ -14,9 +14,9 @@ use Rattle.model_core.specs.Rules.Prune.{prune_conditions, pruned}
 use Rattle.model_core.specs.Rules.Settle.{settle_conditions, settled}
 use Rattle.edge_pruning.specs.declared.finding.EdgeRule.{EdgeRule}
 use Rattle.edge_pruning.specs.declared.finding.EdgeRule.TheVariants as rules
-use Rattle.merge_rules.specs.FactsOfModel.{FactsAreRight}
+use Rattle.model_facts.specs.FactsOfModel.{FactsAreRight}
 use Rattle.reduction_cert.specs.EdgeApplications.{application_by}
-use Rattle.merge_rules.specs.declared.facts.FactsOfModel.{FactsOfModel}
+use Rattle.model_facts.specs.declared.facts.FactsOfModel.{FactsOfModel}
 
 module _ (result h : EventGraph) (failed : Option ℕ) (given : Result (Unit {0}) RuleError) (done : OnOk given ((failed ≡ None) × (h ≡ result))) (refused_so : IfErr given (λ e. NamesCondition e failed)) where
   pub made-result : given ≡ Ok tt → unless_failed failed result ≡ Some h

@@ -9,7 +9,6 @@ use Rattle.model_core.specs.Run.Step.{vertex_at}
 use Rattle.model_core.specs.Text.Numbering.{declared_place}
 use Rattle.model_core.specs.Rules.Conditions.{first_failed}
 use Rattle.model_core.specs.Rules.RefusedCondition.{NamesCondition}
-use Rattle.model_core.specs.Rules.UrgentEdges.{plain_urgent}
 use Rattle.model_core.specs.Rules.Drop.{drop_conditions, dropped}
 use Rattle.model_core.specs.Rules.Merge.{merge_conditions, merged_with, merged}
 use Rattle.model_core.specs.Rules.Reduction.{RuleApplication, Drop, Merge, place_of_vertex, vertices_named, two_vertices_named, unless_failed, applied, first_bad}
@@ -18,8 +17,9 @@ use Rattle.model_core.specs.Rules.PlacedEdges.{with_vertex}
 use Rattle.merge_rules.specs.Hollowed.{hollow, hollowed, merged_leaving}
 use Rattle.merge_rules.specs.declared.taking_over.SecondVertex.{SecondVertex}
 use Rattle.merge_rules.specs.declared.taking_over.SecondVertex.TheVariants as seconds
-use Rattle.reduction_cert.specs.Inner.MovedMerges.{HaveOneResult, MadeInEffect, MergeIsMade}
-use Rattle.reduction_cert.proofs.NamesKept.{placed_kept, merged_name}
+use Rattle.reduction_cert.specs.Inner.MergeBeforeDrop.{HaveOneResult, MadeInEffect, MergeIsMade}
+use Rattle.vertex_laws.proofs.MergedNames.{name_stays}
+use Rattle.reduction_cert.proofs.NamesKept.{placed_kept}
 use Rattle.reduction_cert.proofs.RuleAnswers.{made-none_failed, made-is_result, drop_named, merge_named}
 
 -- the place of the second name
@@ -41,7 +41,7 @@ module _ (conditions : (g : EventGraph) (f : EventVertex → EventVertex) (gone 
       let h = hollowed m second in
       let at_g : place_of_vertex target g.vertices ≡ Some second = second_named (place_of_vertex name g.vertices) (place_of_vertex target g.vertices) first second named in
       let at_m : place_of_vertex target m.vertices ≡ Some second =
-      ap (declared_place target) (placed_kept (merged_with (vertex_at g second)) (λ v. merged_name (vertex_at g second) v (plain_urgent v)) first g.vertices) ∙ at_g in
+      ap (declared_place target) (placed_kept (merged_with (vertex_at g second)) (name_stays (vertex_at g second)) first g.vertices) ∙ at_g in
       let names = placed_kept hollow (λ v. refl) second m.vertices in
       let at_h : place_of_vertex target h.vertices ≡ Some second = ap (declared_place target) names ∙ at_m in
       let same : applied m (Drop (target ∷ [])) ≡ applied h (Drop (target ∷ [])) =

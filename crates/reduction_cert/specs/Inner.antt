@@ -1,3 +1,3 @@
 -- What restates the code of this crate for its proofs.
-pub mod DroppingOnes
-pub mod MovedMerges
+pub mod DropApplications
+pub mod MergeBeforeDrop

@@ -1,4 +1,3 @@
 pub mod VerdictView
 pub mod Inner
-pub mod FactsAfterDrop
 pub mod EdgeApplications

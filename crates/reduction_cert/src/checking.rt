@@ -5,26 +5,25 @@ ghost use Rattle.model_core.specs.EventGraph.{EventGraph};
 ghost use Rattle.model_core.specs.Code.Views.{graph_of, application_of};
 ghost use Rattle.model_core.specs.Rules.Reduction.{Drop, Slice, applied, first_bad};
 ghost use Rattle.model_core.specs.Rules.Verdict.{graph_reached, verdict};
-ghost use Rattle.merge_rules.specs.FactsOfModel.{FactsAreRight};
-ghost use Rattle.merge_rules.specs.NothingCounted.{NothingCounted};
+ghost use Rattle.model_facts.specs.FactsOfModel.{FactsAreRight};
+ghost use Rattle.model_facts.specs.NothingCounted.{NothingCounted};
 ghost use Rattle.reduction_cert.specs.EdgeApplications.{application_by};
 ghost use Rattle.reduction_cert.specs.VerdictView.{verdict_of};
 ghost use Rattle.model_read.specs.NamesPlaced.{HasPlaces, names_of_vertices};
-ghost use Rattle.reduction_cert.specs.Inner.DroppingOnes.{is_drop};
-ghost use Rattle.reduction_cert.specs.Inner.MovedMerges.{MadeInEffect, MergeIsMade};
+ghost use Rattle.reduction_cert.specs.Inner.DropApplications.{is_drop};
+ghost use Rattle.reduction_cert.specs.Inner.MergeBeforeDrop.{MadeInEffect, MergeIsMade};
 
 use crate::by_name::{all_named, edge_named, two_vertices_named};
 use crate::chain_law::applications_add_no_variables;
 use crate::looking_ahead::drops_alone;
-use crate::without_vertices::keep_after_drop;
 use edge_pruning::{
     EdgeRule, drop_vertices, dropping_takes_no_notice_of_the_vertex, prune, settle,
 };
-use merge_rules::{
-    FactsOfModel, SecondVertex, keep_after_prune, keep_after_settle, merge_measured,
-    new_counts_count_nothing,
-};
+use merge_rules::{SecondVertex, merge_measured};
 use model_core::{Application, Model, copy_model, same_model, was_made};
+use model_facts::{
+    FactsOfModel, keep_after_drop, keep_after_prune, keep_after_settle, new_counts_count_nothing,
+};
 use model_read::Places;
 use sig_base::{List, Name, NoMemory};
 use std::alloc::Global;

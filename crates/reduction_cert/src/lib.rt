@@ -9,7 +9,6 @@ mod checking;
 mod looking_ahead;
 mod reading;
 mod token_calls;
-mod without_vertices;
 
 pub use certificate::{print_certificate, put_certificate};
 pub use chain_law::{
@@ -19,4 +18,3 @@ pub use chain_law::{
 pub use checking::{Verdict, check_chain};
 pub use reading::read_certificate_pieces;
 pub use token_calls::read_certificate;
-pub use without_vertices::keep_after_drop;

@@ -3,7 +3,7 @@
 ghost use Rattle.std.specs.Prelude.{◌≡◌, ◌↔◌, [], ◌∷◌, true, map, drop};
 ghost use Rattle.model_core.specs.Code.Views.{application_of};
 ghost use Rattle.model_core.specs.Rules.Reduction.{Drop};
-ghost use Rattle.reduction_cert.specs.Inner.MovedMerges.{BeginsWithDrop};
+ghost use Rattle.reduction_cert.specs.Inner.MergeBeforeDrop.{BeginsWithDrop};
 
 use model_core::Application;
 use sig_base::Name;

@@ -2,16 +2,14 @@
 
 ghost use Rattle.std.specs.Prelude.{IfOk};
 ghost use Rattle.model_core.specs.Code.Views.{graph_of};
-ghost use Rattle.merge_rules.specs.FactsOfModel.{FactsAreRight};
+ghost use Rattle.model_facts.specs.FactsOfModel.{FactsAreRight};
 
 use crate::static_rules::checked;
 use edge_pruning::{drop_vertices, prune, settle};
-use merge_rules::{
-    FactsOfModel, SecondVertex, keep_after_prune, keep_after_settle, merge, merge_measured,
-};
+use merge_rules::{SecondVertex, first_merge, merge, merge_measured};
 use model_core::{Model, RuleError};
+use model_facts::{FactsOfModel, keep_after_drop, keep_after_prune, keep_after_settle};
 use model_print::{print, printed_length};
-use reduction_cert::keep_after_drop;
 use sig_base::{List, NoMemory};
 use std::alloc::Global;
 use std::test::*;
@@ -135,6 +133,27 @@ vertex C {
 }
 end
 ";
+
+/// The places of the first two vertices that may be merged in the model that a text reads as.
+fn first_merge_in(alloc: Global, text: &[u8]) -> Result<Option<(usize, usize)>, NoMemory> {
+    let model = model_of_text(alloc, text)?;
+    Ok(first_merge(&model))
+}
+
+#[test]
+fn the_first_two_that_may_be_merged_are_found(rt: HostRuntime) {
+    for (text, found) in [
+        // `RUN` leads to `A`, which itself leads on at once.
+        (CHAIN, Some((1, 2))),
+        (LOOP, None),
+        (TOGETHER, None),
+        (READING, None),
+        (WATCHED, None),
+        (BEFORE, Some((0, 1))),
+    ] {
+        assert_eq!(rt; first_merge_in(rt.alloc(), text), Ok(found));
+    }
+}
 
 /// Merges the first two vertices of a model, and gives what is known of the result.
 fn merged_and_measured(alloc: Global, model: &mut Model) -> Result<FactsOfModel, RuleError>

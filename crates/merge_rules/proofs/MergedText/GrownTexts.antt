@@ -9,7 +9,8 @@ use Rattle.model_core.specs.Text.Canonical.{canonical, change_line, edge_line}
 use Rattle.model_core.specs.Rules.Prune.{pruned}
 use Rattle.model_core.specs.Rules.UrgentEdges.{plain_urgent_edge}
 use Rattle.model_core.specs.Rules.Merge.{set_parameters, merged}
-use Rattle.merge_rules.specs.Growth.{body_lines, lines_set, lines_taken_over, bytes_added, bytes_set, bytes_gone}
+use Rattle.vertex_laws.specs.BodyLines.{body_lines}
+use Rattle.merge_rules.specs.Growth.{lines_set, lines_taken_over, bytes_added, bytes_set, bytes_gone}
 use Rattle.merge_rules.proofs.OneStepForTwo.EdgesAside.{urgent_edge}
 use Rattle.merge_rules.proofs.SingleUrgentModels.PlainEdges.{PlainEdge}
 use Rattle.merge_rules.proofs.MergedText.MergedLength.{added, rest_length, merged_length, merged_body, edge_within}

@@ -1,5 +1,5 @@
 -- What the first seven conditions of a merge say of the code's two vertices, and by how much the merge makes the text longer.
-use Rattle.std.proofs.Common.{◌≡◌, ◌∙◌, ◌==◌, ℕ, zero, suc, ◌+◌, ◌-◌, ◌<◌, ◌≤◌, nat_lt, nat_le, Bool, true, ◌&&◌, not, List, [], ◌∷◌, ◌++◌, map, take, length, min, get_or, slice_get, Some, None, is_some, IsSome, sym, ap, ap₂, arith, length-append}
+use Rattle.std.proofs.Common.{◌≡◌, ◌∙◌, ◌==◌, ℕ, ◌+◌, ◌-◌, ◌<◌, ◌≤◌, nat_lt, nat_le, Bool, true, ◌&&◌, not, List, ◌++◌, map, take, length, min, get_or, slice_get, Some, None, is_some, IsSome, sym, ap, ap₂, arith, length-append}
 use Rattle.std.specs.List.{flat_map, remove}
 use Rattle.std.specs.Option.{option_map_or}
 use Rattle.std.proofs.lemmas.Bool.Decides.{nat_tests}
@@ -19,10 +19,12 @@ use Rattle.model_core.specs.Code.Views.{graph_of, vertex_of, edge_of, expression
 use Rattle.model_core.proofs.BothTrue.{and_first, and_second}
 use Rattle.merge_rules.proofs.OneStepForTwo.MergedModels.{place-here}
 use Rattle.model_core.proofs.AllHold.{every-holds}
-use Rattle.merge_rules.proofs.OneStepForTwo.MergeHolds.{read_at, is_below}
+use Rattle.vertex_laws.proofs.ReadElement.{read_at, seen_at}
+use Rattle.merge_rules.proofs.OneStepForTwo.MergeHolds.{is_below}
 use Rattle.merge_rules.proofs.SingleUrgentModels.PlainEdges.{PlainEdge, plain_edge_of, plain_within}
 use Rattle.merge_rules.proofs.OneStepForTwo.EdgesAside.{urgent_edge}
-use Rattle.merge_rules.specs.Growth.{body_lines, bytes_added, bytes_set, bytes_gone}
+use Rattle.vertex_laws.specs.BodyLines.{body_lines}
+use Rattle.merge_rules.specs.Growth.{bytes_added, bytes_set, bytes_gone}
 use Rattle.merge_rules.proofs.MergedText.GrownTexts.{gone-is, set-is, added-parts, gone-within-body, shorter, grown, body-grown}
 
 -- ---- the first condition
@@ -46,12 +48,6 @@ seven_hold g first second none =
 -- a place that the graph has is one that the code's list has
 place_below : {A B : Type 0} (view : A → B) (xs : List A) (k : ℕ) → nat_lt k (length (map view xs)) ≡ true → k < length xs
 place_below view xs k e = let below = is_below k (length (map view xs)) e in omega (arith, below, length-map xs view)
-
--- the element at a place, through a view
-pub seen_at : {A B : Type 0} (view : A → B) (xs : List A) (k : ℕ) (x : A) → k < length xs → x ≡ get_or xs k x → slice_get (map view xs) k ≡ Some (view x)
-seen_at view [] k x below is = absurd (omega (arith, below))
-seen_at view (y ∷ xs) zero x below is = ap (λ z. Some (view z)) (sym is)
-seen_at view (y ∷ xs) (suc k) x below is = seen_at view xs k x (omega (arith, below)) is
 
 -- the element that the code reads at a place that the graph has
 seen_there : {A B : Type 0} (view : A → B) (xs seen : List A) (k : ℕ) (x : A) → nat_lt k (length (map view xs)) ≡ true → x ≡ get_or seen k x → seen ≡ xs → slice_get (map view xs) k ≡ Some (view x)

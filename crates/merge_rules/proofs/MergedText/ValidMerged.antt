@@ -21,20 +21,16 @@ use Rattle.merge_rules.proofs.OneStepForTwo.EdgesAside.{urgent_edge}
 use Rattle.merge_rules.proofs.OneStepForTwo.TwoInOne.{joined_vertex}
 use Rattle.merge_rules.proofs.OneStepForTwo.MergedModels.{place-here}
 use Rattle.model_core.proofs.PlacesChanged.{map_placed, length_placed, has_one_placed}
-use Rattle.merge_rules.proofs.OneStepForTwo.PlacedElement.{every_placed}
-use Rattle.merge_rules.proofs.OneStepForTwo.MergeHolds.{Mergeable, there_is, read_at, without_one, the_one, vertex_keeps, set_keeps_rules, carried}
+use Rattle.vertex_laws.proofs.PlacedElement.{every_placed}
+use Rattle.merge_rules.proofs.OneStepForTwo.MergeHolds.{Mergeable, there_is, without_one, the_one, vertex_keeps, set_keeps_rules, carried}
+use Rattle.vertex_laws.proofs.ReadElement.{read_at}
+use Rattle.vertex_laws.proofs.MergedNames.{name_stays}
 use Rattle.merge_rules.proofs.OneStepForTwo.MergeResult.{joined_is}
 
 at_most : (m n : ℕ) → nat_le m n ≡ true → m ≤ n
 at_most m n e = grind (arith, nat_tests)
 
--- ---- name and parameters stay
-
-pub name_stays : (b a : EventVertex) → (merged_with b a).name ≡ a.name
-name_stays b a = by_edge (plain_urgent a) where
-  by_edge : (o : Option ℕ) → (option_map_or (merged_vertex b (values_at_once a) a) o a).name ≡ a.name
-  by_edge None = refl
-  by_edge (Some place) = refl
+-- ---- the parameters stay
 
 parameters_stay : (b a : EventVertex) → (merged_with b a).parameters ≡ a.parameters
 parameters_stay b a = by_edge (plain_urgent a) where

@@ -1,76 +1,18 @@
--- A merge, and an edge that goes and draws no delay, leave it as it is whether a model needs version 2 of a text.
-use Rattle.std.proofs.Common.{◌≡◌, ◌⊎◌, inl, inr, ℕ, zero, suc, nat_lt, Bool, true, false, ◌||◌, List, [], ◌∷◌, ◌++◌, map, length, slice_get, slice_index_or, Option, Some, None, refl, sym, ◌∙◌, ap, ap₂}
+-- A merge leaves it as it is whether a model needs version 2 of a text.
+use Rattle.std.proofs.Common.{◌≡◌, ◌⊎◌, inl, ℕ, zero, suc, nat_lt, Bool, true, false, ◌||◌, List, [], ◌∷◌, ◌++◌, map, length, slice_index_or, Option, Some, None, refl, sym, ◌∙◌, ap, ap₂}
 use Rattle.std.specs.List.{list_any, remove}
 use Rattle.std.specs.Option.{option_map_or}
 use Rattle.std.proofs.lemmas.List.{length-map}
 use Rattle.std.proofs.lemmas.List.Folds.{list_any-append}
 use Rattle.sig_base.specs.declared.limits.TheConstants.{PARAMETERS_MAX_VERSION_1, TARGETS_MAX_VERSION_1}
-use Rattle.model_core.specs.EventGraph.{EventGraph, EventVertex, EventEdge, Expression, scalar_location, has_drawn_delay}
+use Rattle.model_core.specs.EventGraph.{EventGraph, EventVertex, Expression, scalar_location, has_drawn_delay}
 use Rattle.model_core.specs.Run.Step.{vertex_at, no_vertex}
-use Rattle.model_core.specs.Text.VersionNeeded.{is_large_array, has_many_targets, has_later_parts, needs_version_two}
+use Rattle.model_core.specs.Text.VersionNeeded.{has_many_targets, has_later_parts, needs_version_two}
 use Rattle.model_core.specs.Rules.Merge.{set_parameters, merged_vertex, merged_with, values_at_once, merged}
-use Rattle.model_core.specs.Rules.PlacedEdges.{with_place, with_vertex}
-use Rattle.model_core.specs.Rules.Prune.{without_edge, pruned}
 use Rattle.model_core.specs.Rules.UrgentEdges.{plain_urgent}
 use Rattle.model_core.proofs.Among.{either_true, first_true, second_true}
-use Rattle.mark_laws.proofs.MarksBelow.{same_mark}
+use Rattle.vertex_laws.proofs.NeededVersion.{drawn-removed, needed-same}
 use Rattle.merge_rules.proofs.SingleUrgentModels.PlainEdges.{plain_undrawn}
-
--- ---- one vertex changed
-
--- where the change makes a vertex need a later version, one of the vertices needed it, and none that needed it no longer does
-module _ (f : EventVertex → EventVertex) (more : Bool) where
-  abbrev Some_late : List EventVertex → Bool
-  Some_late vs = list_any has_later_parts vs
-
-  abbrev Gains : EventVertex → Type 0
-  Gains v = has_later_parts (f v) ≡ true → (has_later_parts v ≡ true) ⊎ (more ≡ true)
-
-  abbrev Keeps : EventVertex → Type 0
-  Keeps v = has_later_parts v ≡ true → has_later_parts (f v) ≡ true
-
-  pub gained : (k : ℕ) (vs : List EventVertex) → ((v : EventVertex) → slice_get vs k ≡ Some v → Gains v) → Some_late (with_place f k vs) ≡ true → (Some_late vs ≡ true) ⊎ (more ≡ true)
-  gained k [] gains e = inl e
-  gained zero (v ∷ vs) gains e = elim (either_true (has_later_parts (f v)) (Some_late vs) e) [
-    | inl h ↦ elim (gains v refl h) [ inl i ↦ inl (first_true (has_later_parts v) (Some_late vs) i) | inr i ↦ inr i ]
-    | inr h ↦ inl (second_true (has_later_parts v) (Some_late vs) h)
-  ]
-  gained (suc k) (v ∷ vs) gains e = elim (either_true (has_later_parts v) (Some_late (with_place f k vs)) e) [
-    | inl h ↦ inl (first_true (has_later_parts v) (Some_late vs) h)
-    | inr h ↦ elim (gained k vs gains h) [ inl i ↦ inl (second_true (has_later_parts v) (Some_late vs) i) | inr i ↦ inr i ]
-  ]
-
-  kept : (k : ℕ) (vs : List EventVertex) → ((v : EventVertex) → slice_get vs k ≡ Some v → Keeps v) → Some_late vs ≡ true → Some_late (with_place f k vs) ≡ true
-  kept k [] keeps e = e
-  kept zero (v ∷ vs) keeps e = elim (either_true (has_later_parts v) (Some_late vs) e) [
-    | inl h ↦ first_true (has_later_parts (f v)) (Some_late vs) (keeps v refl h)
-    | inr h ↦ second_true (has_later_parts (f v)) (Some_late vs) h
-  ]
-  kept (suc k) (v ∷ vs) keeps e = elim (either_true (has_later_parts v) (Some_late vs) e) [
-    | inl h ↦ first_true (has_later_parts v) (Some_late (with_place f k vs)) h
-    | inr h ↦ second_true (has_later_parts v) (Some_late (with_place f k vs)) (kept k vs keeps h)
-  ]
-
-  pub needed-same : (g : EventGraph) (k : ℕ) → ((v : EventVertex) → slice_get g.vertices k ≡ Some v → Gains v) → ((v : EventVertex) → slice_get g.vertices k ≡ Some v → Keeps v) → (more ≡ true → Some_late g.vertices ≡ true)
-      → needs_version_two (with_vertex f k g) ≡ needs_version_two g
-  needed-same g k gains keeps had =
-      ap (λ b. list_any is_large_array g.variables || b)
-      (same_mark (Some_late (with_place f k g.vertices)) (Some_late g.vertices) (λ e. elim (gained k g.vertices gains e) [ inl h ↦ h | inr h ↦ had h ]) (kept k g.vertices keeps))
-
--- ---- an edge that goes, whose delay isn't drawn
-
-drawn-removed : (es : List EventEdge) (k : ℕ) → ((e : EventEdge) → slice_get es k ≡ Some e → has_drawn_delay e ≡ false) → list_any has_drawn_delay (remove es k) ≡ list_any has_drawn_delay es
-drawn-removed [] zero undrawn = refl
-drawn-removed [] (suc k) undrawn = refl
-drawn-removed (e ∷ es) zero undrawn = sym (ap (λ b. b || list_any has_drawn_delay es) (undrawn e refl))
-drawn-removed (e ∷ es) (suc k) undrawn = ap (λ b. has_drawn_delay e || b) (drawn-removed es k undrawn)
-
-pub needed-pruned : (g : EventGraph) (vertex edge : ℕ) → ((v : EventVertex) → slice_get g.vertices vertex ≡ Some v → (e : EventEdge) → slice_get v.edges edge ≡ Some e → has_drawn_delay e ≡ false) → needs_version_two (pruned g vertex edge) ≡ needs_version_two g
-needed-pruned g vertex edge undrawn =
-    let same : (v : EventVertex) → slice_get g.vertices vertex ≡ Some v → has_later_parts (without_edge edge v) ≡ has_later_parts v = λ v there. ap (λ b. nat_lt PARAMETERS_MAX_VERSION_1 (length v.parameters) || list_any has_many_targets v.changes || b) (drawn-removed v.edges edge (undrawn v there)) in
-    needed-same (without_edge edge) false g vertex (λ v there e. inl (sym (same v there) ∙ e)) (λ v there e. same v there ∙ e) (λ no. cc)
-
--- ---- a merge
 
 or_nothing : (b : Bool) → (b || false) ≡ b
 or_nothing true = refl

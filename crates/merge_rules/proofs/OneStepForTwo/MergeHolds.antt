@@ -1,5 +1,5 @@
 -- What the conditions of a merge say of the states of a model that keeps its rules.
-use Rattle.std.proofs.Common.{◌≡◌, ℕ, zero, suc, ◌+◌, ◌<◌, ◌≤◌, ◌==◌, nat_lt, Bool, true, false, not, ◌&&◌, ◌||◌, cond, List, [], ◌∷◌, ◌++◌, map, length, slice_get, slice_index_or, Some, None, refl, sym, ◌∙◌, ap, subst, arith}
+use Rattle.std.proofs.Common.{◌≡◌, ℕ, zero, suc, ◌+◌, ◌<◌, ◌≤◌, ◌==◌, nat_lt, Bool, true, false, not, ◌&&◌, ◌||◌, cond, List, [], ◌∷◌, ◌++◌, map, length, slice_get, Some, None, refl, sym, ◌∙◌, ap, subst, arith}
 use Rattle.std.proofs.lemmas.Bool.Decides.{nat_tests}
 use Rattle.std.specs.List.{AllByRecursion, AllZip, list_any, list_all, position_from}
 use Rattle.std.proofs.lemmas.List.{length-map}
@@ -21,6 +21,7 @@ use Rattle.model_core.proofs.Images.{image-there}
 use Rattle.static_laws.proofs.StaticTwins.DeclaredNames.{every_item}
 use Rattle.bound_laws.proofs.Soundness.NumberRows.{not_true}
 use Rattle.model_core.proofs.EachOne.{every-map, every-front, every-after, every-joined, either_false}
+use Rattle.vertex_laws.proofs.ReadElement.{read_at}
 use Rattle.merge_rules.proofs.OneStepForTwo.EdgesAside.{Aside, urgent_edge}
 use Rattle.merge_rules.proofs.SingleUrgentModels.UrgentEvents.{PriorityOk}
 use Rattle.merge_rules.proofs.SingleUrgentModels.SingleUrgent.{edges_keep}
@@ -88,11 +89,6 @@ pub there_is : {A : Type 0} (xs : List A) (k : ℕ) → nat_lt k (length xs) ≡
 there_is [] k e = let below = is_below k 0 e in absurd (omega (arith, below))
 there_is (x ∷ xs) zero e = (x, refl)
 there_is (x ∷ xs) (suc k) e = there_is xs k (lower k (length xs) e)
-
-pub read_at : {A : Type 0} (xs : List A) (k : ℕ) (d x : A) → slice_get xs k ≡ Some x → slice_index_or xs k d ≡ x
-read_at [] k d x there = cc
-read_at (y ∷ xs) zero d x there = cc
-read_at (y ∷ xs) (suc k) d x there = read_at xs k d x there
 
 pub none_found : {A : Type 0} (test : A → Bool) (xs : List A) (from : ℕ) → list_any test xs ≡ false → position_from test from xs ≡ None
 none_found test [] from e = refl

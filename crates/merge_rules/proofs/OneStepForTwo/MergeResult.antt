@@ -9,7 +9,7 @@ use Rattle.model_core.specs.Static.OwnRules.{KeepsParts}
 use Rattle.model_core.specs.Rules.Conditions.{first_failed}
 use Rattle.model_core.specs.Rules.Merge.{merge_conditions, set_parameters, merged_vertex, merged_with, values_at_once, merged}
 use Rattle.bound_laws.proofs.BeginsInRange.{kept_models_begin_in_range}
-use Rattle.merge_rules.proofs.OneStepForTwo.PlacedElement.{same_placed}
+use Rattle.vertex_laws.proofs.PlacedElement.{same_placed}
 use Rattle.merge_rules.proofs.OneStepForTwo.TwoInOne.{joined_vertex}
 use Rattle.merge_rules.proofs.OneStepForTwo.MergedModels.{joined_at, merge_keeps}
 use Rattle.merge_rules.proofs.SingleUrgentModels.SingleUrgent.{NeverBoth}

@@ -11,7 +11,9 @@ use Rattle.model_core.specs.Rules.UrgentEdges.{plain_urgent_edge}
 use Rattle.model_core.specs.Rules.Merge.{set_parameters}
 use Rattle.run_laws.proofs.MappedVertices.{with_mapped}
 use Rattle.merge_rules.specs.PairFits.{target_at_once}
-use Rattle.merge_rules.specs.Growth.{body_lines, lines_taken_over, bytes_added, bytes_gone, capped, growth}
+use Rattle.vertex_laws.specs.BodyLines.{body_lines}
+use Rattle.merge_rules.specs.Growth.{lines_taken_over, bytes_added, bytes_gone, growth}
+use Rattle.model_facts.specs.KnownLengths.{capped}
 use Rattle.merge_rules.proofs.PairsBetweenMerges.PairsMoved.{edge-alike}
 
 module _ (g : EventGraph) (f : ℕ → ℕ) (vertices : List EventVertex) (Live : ℕ → Type 0) (names : (x : ℕ) → Live x → vertex_name (with_mapped g f vertices) (f x) ≡ vertex_name g x) where

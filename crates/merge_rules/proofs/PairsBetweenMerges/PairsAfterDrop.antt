@@ -25,7 +25,7 @@ use Rattle.merge_rules.specs.KeptPairs.{edges_leading, edges_to, has_incoming, F
 use Rattle.merge_rules.specs.Inner.PairMoves.{with_fewer, edges_taken, moved_up}
 use Rattle.merge_rules.specs.declared.kept_pairs.KeptPair.{KeptPair}
 use Rattle.merge_rules.proofs.SingleUrgentModels.SingleUrgent.{edges_keep}
-use Rattle.merge_rules.proofs.SingleUrgentModels.PlainEdges.{is_there}
+use Rattle.vertex_laws.proofs.ReadElement.{is_there}
 use Rattle.merge_rules.proofs.PairsBetweenMerges.PairsMoved.{acts-alike, target-alike, fits-moved, unseen-stays}
 use Rattle.merge_rules.proofs.PairsBetweenMerges.GrowthMoved.{growth-moved}
 use Rattle.merge_rules.proofs.PairsBetweenMerges.LedPlaces.{leads_there, mapped-there, taken-long, taken-at, to-without}

@@ -28,7 +28,7 @@ use Rattle.merge_rules.proofs.OneStepForTwo.EdgesAside.{urgent_edge}
 use Rattle.merge_rules.proofs.SingleUrgentModels.OneUrgentLess.{plain_gone}
 use Rattle.merge_rules.proofs.PairsBetweenMerges.PairsMoved.{acts-alike, fits-moved, unseen-stays}
 use Rattle.merge_rules.proofs.PairsBetweenMerges.GrowthMoved.{growth-moved}
-use Rattle.merge_rules.proofs.MergedText.ValidMerged.{name_stays}
+use Rattle.vertex_laws.proofs.MergedNames.{name_stays}
 use Rattle.merge_rules.proofs.PairsBetweenMerges.LedPlaces.{mapped-there, added-long, added-at, one_fewer-at, leading-joined, leading-without, to-placed}
 
 -- ---- names that stay

@@ -11,6 +11,7 @@ use Rattle.model_core.specs.Rules.UrgentEdges.{is_urgent, is_urgent_kind, is_pla
 use Rattle.model_core.specs.Rules.Merge.{leads_to, values_at_once, other_edges}
 use Rattle.model_core.proofs.BothTrue.{and_first, and_second}
 use Rattle.model_core.proofs.EachOne.{every-joined}
+use Rattle.vertex_laws.proofs.ReadElement.{is_there}
 use Rattle.merge_rules.proofs.OneStepForTwo.EdgesAside.{urgent_edge}
 
 -- ---- the place of the first that passes a test
@@ -147,11 +148,6 @@ plain_undrawn a place is e there =
     let same_edge : Some f.element ≡ Some e = sym f.there ∙ (ap (slice_get a.edges) offset_is ∙ there) in
     let same : f.element ≡ e = cc in
     ap (λ kind. option_map_or is_drawn (delay_given kind) false) (urgent_kind-is e.kind (and_first (is_urgent e) _ (subst (λ e. is_plain e ≡ true) same f.passes)))
-
-pub is_there : {A : Type 0} (xs : List A) (k : ℕ) (x : A) → slice_get xs k ≡ Some x → k < length xs
-is_there [] k x e = cc
-is_there (y ∷ xs) zero x e = omega arith
-is_there (y ∷ xs) (suc k) x e = let later = is_there xs k x e in omega (arith, later)
 
 pub plain_within : (a : EventVertex) (place : ℕ) → plain_urgent a ≡ Some place → place < length a.edges
 plain_within a place is =

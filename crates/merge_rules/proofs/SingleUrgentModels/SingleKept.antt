@@ -1,18 +1,15 @@
--- A single urgent model stays single urgent where two of its vertices are merged, and where vertices are dropped.
-use Rattle.std.proofs.Common.{◌≡◌, ℕ, zero, suc, Bool, true, false, ◌&&◌, cond, List, [], ◌∷◌, ◌++◌, map, filter, length, slice_index_or, refl, ◌∙◌, ap, ap₂}
+-- A single urgent model stays single urgent where two of its vertices are merged.
+use Rattle.std.proofs.Common.{◌≡◌, ℕ, true, false, cond, List, [], ◌∷◌, ◌++◌, map, filter, refl, ◌∙◌, ap}
 use Rattle.std.specs.Prelude.{None}
-use Rattle.std.specs.List.{list_all, AllByRecursion}
+use Rattle.std.specs.List.{AllByRecursion}
 use Rattle.model_core.specs.EventGraph.{EventGraph, EventVertex, EventEdge, Expression}
-use Rattle.model_core.specs.Run.Step.{vertex_at, no_vertex}
+use Rattle.model_core.specs.Run.Step.{vertex_at}
 use Rattle.model_core.specs.Rules.Conditions.{first_failed}
 use Rattle.model_core.specs.Rules.Exclusive.{exclusive}
-use Rattle.model_core.specs.Rules.PlacedEdges.{with_place}
-use Rattle.model_core.specs.Rules.MarkedPlaces.{rank, marked_of}
 use Rattle.model_core.specs.Rules.UrgentEdges.{is_urgent, each_pair, urgent_conditions, single_urgent}
-use Rattle.model_core.specs.Rules.Drop.{staying_marks, edge_renumbered, vertex_renumbered, dropped}
 use Rattle.model_core.specs.Rules.Merge.{merge_conditions, merged_with, merged}
 use Rattle.model_core.proofs.AllHold.{every-holds}
-use Rattle.model_core.proofs.BothTrue.{and_first, and_second}
+use Rattle.vertex_laws.proofs.ApartVertices.{apart, apart_at, apart_placed}
 use Rattle.merge_rules.proofs.SingleUrgentModels.PlainEdges.{PlainEdge}
 use Rattle.merge_rules.proofs.OneStepForTwo.MergeHolds.{conditions_hold}
 use Rattle.merge_rules.proofs.OneStepForTwo.MergeResult.{joined_is}
@@ -21,60 +18,17 @@ abbrev conditions : List EventEdge → List Expression
 conditions es = map (λ (e : EventEdge). e.condition) es
 
 module _ (g : EventGraph) where
-  -- the urgent edges of the vertex exclude each other
-  abbrev pub apart : EventVertex → Bool
-  apart v = each_pair (exclusive g) (urgent_conditions v.edges)
-
-  both_hold : (a b : Bool) → a ≡ true → b ≡ true → (a && b) ≡ true
-  both_hold a b is_a is_b = ap₂ (λ a b. a && b) is_a is_b
-
-  pub apart_at : (vs : List EventVertex) (k : ℕ) → list_all apart vs ≡ true → apart (slice_index_or vs k no_vertex) ≡ true
-  apart_at [] k all = refl
-  apart_at (v ∷ vs) zero all = and_first (apart v) (list_all apart vs) all
-  apart_at (v ∷ vs) (suc k) all = apart_at vs k (and_second (apart v) (list_all apart vs) all)
-
-  -- ---- a merge
-
-  pub apart_placed : (f : EventVertex → EventVertex) (k : ℕ) (vs : List EventVertex) → apart (f (slice_index_or vs k no_vertex)) ≡ true → list_all apart vs ≡ true → list_all apart (with_place f k vs) ≡ true
-  apart_placed f k [] here all = refl
-  apart_placed f zero (v ∷ vs) here all = both_hold (apart (f v)) (list_all apart vs) here (and_second (apart v) (list_all apart vs) all)
-  apart_placed f (suc k) (v ∷ vs) here all =
-      both_hold (apart v) (list_all apart (with_place f k vs)) (and_first (apart v) (list_all apart vs) all) (apart_placed f k vs here (and_second (apart v) (list_all apart vs) all))
-
   -- edges that aren't urgent add no condition
   conditions-after : (xs ys : List EventEdge) → AllByRecursion (λ e. is_urgent e ≡ false) xs → urgent_conditions (xs ++ ys) ≡ urgent_conditions ys
   conditions-after [] ys calm = refl
   conditions-after (x ∷ xs) ys (aside, calm) = ap (λ b. conditions (cond b (x ∷ filter is_urgent (xs ++ ys)) (filter is_urgent (xs ++ ys)))) aside ∙ conditions-after xs ys calm
 
-  apart_joined : (a b : EventVertex) (second : ℕ) → PlainEdge a second → apart b ≡ true → apart (merged_with b a) ≡ true
+  apart_joined : (a b : EventVertex) (second : ℕ) → PlainEdge a second → apart g b ≡ true → apart g (merged_with b a) ≡ true
   apart_joined a b second p clear =
-      ap apart (joined_is a b second p) ∙ ap (each_pair (exclusive g)) (conditions-after (p.before ++ p.after) b.edges p.calm) ∙ clear
-
-  -- ---- a drop
-
-  conditions_renumbered : (f : ℕ → ℕ) (es : List EventEdge) → urgent_conditions (map (edge_renumbered f) es) ≡ urgent_conditions es
-  conditions_renumbered f [] = refl
-  conditions_renumbered f (e ∷ es) = one (is_urgent e) (conditions_renumbered f es) where
-    one : (b : Bool) → urgent_conditions (map (edge_renumbered f) es) ≡ urgent_conditions es
-        → conditions (cond b (edge_renumbered f e ∷ filter is_urgent (map (edge_renumbered f) es)) (filter is_urgent (map (edge_renumbered f) es))) ≡ conditions (cond b (e ∷ filter is_urgent es) (filter is_urgent es))
-    one true same = ap (λ cs. e.condition ∷ cs) same
-    one false same = same
-
-  apart_marked : (f : ℕ → ℕ) (marks : List Bool) (vs : List EventVertex) → list_all apart vs ≡ true → list_all apart (map (vertex_renumbered f) (marked_of marks vs)) ≡ true
-  apart_marked f [] vs all = refl
-  apart_marked f (m ∷ marks) [] all = refl
-  apart_marked f (m ∷ marks) (v ∷ vs) all = one m (apart_marked f marks vs (and_second (apart v) (list_all apart vs) all)) where
-    one : (b : Bool) → list_all apart (map (vertex_renumbered f) (marked_of marks vs)) ≡ true → list_all apart (map (vertex_renumbered f) (cond b (v ∷ marked_of marks vs) (marked_of marks vs))) ≡ true
-    one true rest =
-        both_hold (apart (vertex_renumbered f v)) (list_all apart (map (vertex_renumbered f) (marked_of marks vs)))
-        (ap (each_pair (exclusive g)) (conditions_renumbered f v.edges) ∙ and_first (apart v) (list_all apart vs) all) rest
-    one false rest = rest
+      ap (apart g) (joined_is a b second p) ∙ ap (each_pair (exclusive g)) (conditions-after (p.before ++ p.after) b.edges p.calm) ∙ clear
 
 pub merged_single : (g : EventGraph) (first second : ℕ) → first_failed (merge_conditions g first second) ≡ None → single_urgent (merged g first second) ≡ true
 merged_single g first second holds =
     let single = (every-holds (merge_conditions g first second) holds).1.1.0 in
     apart_placed g (merged_with (vertex_at g second)) first g.vertices
     (apart_joined g (vertex_at g first) (vertex_at g second) second (conditions_hold g first second holds).edge (apart_at g g.vertices second single)) single
-
-pub dropped_single : (g : EventGraph) (vertices : List ℕ) → single_urgent g ≡ true → single_urgent (dropped g vertices) ≡ true
-dropped_single g vertices single = apart_marked g (rank (staying_marks vertices (length g.vertices))) (staying_marks vertices (length g.vertices)) g.vertices single

@@ -5,7 +5,7 @@ use Rattle.std.proofs.lemmas.Bool.Decides.{nat_tests}
 use Rattle.std.specs.Option.{option_and_then}
 use Rattle.model_core.specs.declared.vertex.Edge.{Edge}
 use Rattle.model_core.specs.Code.Views.{vertex_of, edge_of}
-use Rattle.merge_rules.proofs.MergedText.LimitsTested.{seen_at}
+use Rattle.vertex_laws.proofs.ReadElement.{seen_at}
 use Rattle.merge_rules.proofs.at_once.edge_at_once.Goals as goal
 
 past_end : {A B : Type 0} (view : A → B) (xs : List A) (k : ℕ) → length xs ≤ k → None ≡ slice_get (map view xs) k

@@ -8,7 +8,9 @@ use Rattle.model_core.specs.Run.Step.{vertex_at}
 use Rattle.model_core.specs.Text.Canonical.{change_line}
 use Rattle.model_core.specs.Rules.Merge.{set_parameters}
 use Rattle.model_core.specs.Code.Views.{graph_of, expression_of}
-use Rattle.merge_rules.specs.Growth.{body_lines, bytes_added, bytes_set, capped}
+use Rattle.vertex_laws.specs.BodyLines.{body_lines}
+use Rattle.merge_rules.specs.Growth.{bytes_added, bytes_set}
+use Rattle.model_facts.specs.KnownLengths.{capped}
 use Rattle.merge_rules.proofs.MergedText.LimitsTested.{first_among, second_among, urgent_there, gone_here, set_here, text_added, capped_sum}
 use Rattle.merge_rules.proofs.growth.grows_by.Goals as goal
 

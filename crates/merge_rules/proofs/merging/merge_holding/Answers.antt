@@ -9,9 +9,10 @@ use Rattle.model_core.specs.Rules.Merge.{merge_conditions, merged}
 use Rattle.merge_rules.proofs.MergedText.LimitsTested.{first_among, second_among, urgent_there, urgent_at}
 use Rattle.model_core.specs.Rules.UrgentEdges.{single_urgent}
 use Rattle.merge_rules.proofs.ConditionsAsked.PairsFound.{front_holds}
-use Rattle.merge_rules.specs.FactsOfModel.{VersionIsRight, BodiesAreRight}
-use Rattle.merge_rules.proofs.MergedText.MergedLength.{version_within}
-use Rattle.merge_rules.proofs.BodiesKept.{are-joined, are-left}
+use Rattle.model_facts.specs.FactsOfModel.{VersionIsRight}
+use Rattle.model_facts.specs.KnownLengths.{BodiesAreRight}
+use Rattle.vertex_laws.proofs.ChangedLines.{version_within}
+use Rattle.merge_rules.proofs.BodiesKept.{others-merged, others-left}
 use Rattle.merge_rules.specs.Hollowed.{merged_leaving}
 use Rattle.merge_rules.proofs.HollowedText.{two_apart, version_left, leaving_measured, leaving_body, leaving_single}
 use Rattle.merge_rules.proofs.merging.merge_holding.Goals as goal
@@ -76,8 +77,8 @@ returns-clause-facts c =
     let result = merged_leaving c.args.second g c.args.vertex c.args.target in
     let measured = leaving_measured g c.args.vertex c.args.target holds c.args.second (2 ^ 64 - 1) c.merged_length-bytes.result c.find_body-body.result c.bytes_leaving-gone.result (omega arith) c.merged_length-bytes.ensures c.find_body-body.ensures.is c.bytes_leaving-gone.ensures in
     let body = leaving_body g c.args.vertex c.args.target holds c.args.second (2 ^ 64 - 1) c.find_body-body.result c.bytes_leaving-gone.result c.find_body-body.ensures.is c.bytes_leaving-gone.ensures in
-    let joined = are-joined g c.args.vertex c.args.target c.find_merged_body-merged_body.result c.find_version.new.self.bodies c.find_merged_body-merged_body.ensures.is c.find_version.ensures.facts.bodies in
-    let bodies = are-left c.args.second g c.args.vertex c.args.target _ c.put.new.self body.1 (subst (BodiesAreRight (merged g c.args.vertex c.args.target)) (sym c.put.ensures) joined) in
+    let joined = c.put.ensures.right g (merged g c.args.vertex c.args.target) (others-merged g c.args.vertex c.args.target) c.merged_body-joined.ensures.is c.find_version.ensures.facts.bodies in
+    let bodies = c.put-2.ensures.right (merged g c.args.vertex c.args.target) result (others-left c.args.second g c.args.vertex c.args.target) body.1 joined in
     let done = c.in_ok-put_together.ensures.done in
     let version = version_left g c.args.vertex c.args.target holds c.args.second in
     let lines = rest_of g result _ _ _ measured.1 (c.version_length-version.ensures ∙ ap (λ b. length (version_line b)) c.find_version.ensures.is) version refl in
@@ -85,7 +86,7 @@ returns-clause-facts c =
       lines = subst (λ (h : EventGraph). length (version_line (needs_version_two h)) + (c.merged_length-bytes.result - c.bytes_leaving-gone.result - c.version_length-version.result) ≡ length (canonical h)) (sym done) lines.1;
       version = subst (λ (h : EventGraph). VersionIsRight h c.find_version.new.self.version_two) (sym done) (subst (VersionIsRight result) (sym c.find_version.ensures.kept) (c.find_version.ensures.is ∙ sym version));
       single = sym (ap single_urgent done ∙ leaving_single g c.args.vertex c.args.target holds c.args.second);
-      bodies = subst (λ (h : EventGraph). BodiesAreRight h c.put-2.new.self) (sym done) (subst (BodiesAreRight result) (sym c.put-2.ensures) bodies);
+      bodies = subst (λ (h : EventGraph). BodiesAreRight h c.put-2.new.self) (sym done) bodies;
     }
 
 pub returns-clause-measured : goal.returns-clause-measured

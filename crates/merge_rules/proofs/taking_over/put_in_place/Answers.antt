@@ -8,7 +8,7 @@ use Rattle.model_core.specs.EventGraph.{StateChange, EventEdge, Expression}
 use Rattle.model_core.specs.Rules.Merge.{set_parameters}
 use Rattle.model_core.specs.Code.Views.{change_of, edge_of, expression_of}
 use Rattle.model_core.proofs.Images.{map-remove}
-use Rattle.merge_rules.proofs.MergedText.LimitsTested.{seen_at}
+use Rattle.vertex_laws.proofs.ReadElement.{seen_at}
 use Rattle.merge_rules.proofs.taking_over.put_in_place.Goals as goal
 
 pub returns-clause-changes : goal.returns-clause-changes

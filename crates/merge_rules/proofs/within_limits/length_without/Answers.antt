@@ -3,8 +3,9 @@ use Rattle.std.proofs.Common.{◌≡◌, ◌∙◌, ◌-◌, ◌^◌, length, mi
 use Rattle.model_core.specs.Text.Canonical.{canonical}
 use Rattle.model_core.specs.Rules.Prune.{pruned}
 use Rattle.model_core.specs.Code.Views.{graph_of}
-use Rattle.merge_rules.specs.FactsOfModel.{TextLengthIsRight}
-use Rattle.merge_rules.specs.Growth.{bytes_gone, capped}
+use Rattle.model_facts.specs.FactsOfModel.{TextLengthIsRight}
+use Rattle.merge_rules.specs.Growth.{bytes_gone}
+use Rattle.model_facts.specs.KnownLengths.{capped}
 use Rattle.merge_rules.proofs.MergedText.LimitsTested.{first_among, urgent_there, gone_within, without_here, part_taken}
 use Rattle.merge_rules.proofs.within_limits.length_without.Goals as goal
 

@@ -13,6 +13,7 @@ pub loop-underway-preserved : goal.loop-underway-preserved
 loop-underway-preserved c = record {
   led = led_further c.later_rules_leave_edges.ensures c.chains_keep_the_meaning.ensures.one_valid _ _ _ _ _ _ _ c.if-branch.true c.loop-underway.invariant.led c.in_ok-apply_one.ensures.made;
   progress = c.in_ok-apply_one.ensures.progress;
+  pairs = c.in_ok-apply_one.ensures.pairs;
 }
 
 pub returns : goal.returns

@@ -5,7 +5,7 @@ use Rattle.std.specs.Option.{option_map}
 use Rattle.sig_base.proofs.Lists.{one_left}
 use Rattle.model_core.specs.Text.Numbering.{each_numbered}
 use Rattle.model_read.specs.NamesPlaced.{listed_place}
-use Rattle.reduction_cert.proofs.OneMore.{named_later, not_named, every_named}
+use Rattle.reduction_cert.proofs.ApplicationLoops.{named_later, not_named, every_named}
 use Rattle.reduction_cert.proofs.by_name.all_named.Goals as goal
 
 pub loop-name-preserved : goal.loop-name-preserved

@@ -1,11 +1,10 @@
 -- One application more is made, or is the first bad one.
-use Rattle.std.proofs.Common.{◌≡◌, ◌∙◌, ℕ, ◌+◌, Option, Some, None, option_map, Result, Ok, map, drop, ap}
-use Rattle.std.proofs.Common.{rules, arith}
+use Rattle.std.proofs.Common.{◌≡◌, ◌∙◌, ℕ, ◌+◌, Option, Some, None, option_map, Result, Ok, map, drop, ap, rules, arith}
 use Rattle.std.proofs.lemmas.Grind.{common_steps}
 use Rattle.sig_base.specs.declared.no_memory.NoMemory.{NoMemory}
 use Rattle.sig_base.proofs.Lists.{remaining_more}
 use Rattle.model_core.specs.Code.Views.{graph_of, application_of}
-use Rattle.reduction_cert.proofs.OneMore.{left_none, bad_later, reached_later, bad_here, none_bad, all_reached}
+use Rattle.reduction_cert.proofs.ApplicationLoops.{left_none, bad_later, reached_later, bad_here, none_bad, all_reached}
 use Rattle.reduction_cert.proofs.FewerVariables.{counts_serve, fewer}
 use Rattle.reduction_cert.proofs.SameAfterDrop.{was_made, was_refused}
 use Rattle.reduction_cert.proofs.checking.apply_all.Goals as goal

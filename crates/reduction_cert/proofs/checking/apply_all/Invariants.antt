@@ -3,8 +3,8 @@ use Rattle.std.specs.Option.{option_map}
 use Rattle.model_core.specs.Code.Views.{graph_of, application_of}
 use Rattle.model_core.specs.Rules.Reduction.{first_bad}
 use Rattle.model_core.specs.Rules.Verdict.{graph_reached}
-use Rattle.merge_rules.specs.FactsOfModel.{FactsAreRight}
-use Rattle.merge_rules.specs.NothingCounted.{NothingCounted}
+use Rattle.model_facts.specs.FactsOfModel.{FactsAreRight}
+use Rattle.model_facts.specs.NothingCounted.{NothingCounted}
 use Rattle.model_read.specs.NamesPlaced.{HasPlaces, names_of_vertices}
 use Rattle.reduction_cert.proofs.checking.apply_all.Given as goal
 

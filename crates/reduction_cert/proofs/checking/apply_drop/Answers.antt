@@ -5,7 +5,7 @@ use Rattle.model_core.specs.Code.Views.{graph_of}
 use Rattle.model_core.specs.Rules.Conditions.{first_failed}
 use Rattle.model_core.specs.Rules.Drop.{drop_conditions, dropped}
 use Rattle.model_core.specs.Rules.Reduction.{vertices_named, unless_failed}
-use Rattle.merge_rules.specs.FactsOfModel.{FactsAreRight}
+use Rattle.model_facts.specs.FactsOfModel.{FactsAreRight}
 use Rattle.reduction_cert.proofs.PlacesByTable.{all_by_table}
 use Rattle.reduction_cert.proofs.RuleAnswers.{answer-result, made-none_failed, made-is_result, facts_kept, drop_named}
 use Rattle.reduction_cert.proofs.checking.apply_drop.Goals as goal

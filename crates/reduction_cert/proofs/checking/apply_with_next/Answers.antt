@@ -3,7 +3,7 @@ use Rattle.std.proofs.Common.{sym, ap, subst, map, drop}
 use Rattle.std.proofs.lemmas.Result.{IfOk-weaker}
 use Rattle.model_core.specs.Code.Views.{graph_of, application_of}
 use Rattle.model_core.specs.Rules.Reduction.{RuleApplication}
-use Rattle.reduction_cert.specs.Inner.MovedMerges.{MadeInEffect}
+use Rattle.reduction_cert.specs.Inner.MergeBeforeDrop.{MadeInEffect}
 use Rattle.reduction_cert.proofs.SameAfterDrop.{made_for}
 use Rattle.reduction_cert.proofs.checking.apply_with_next.Goals as goal
 

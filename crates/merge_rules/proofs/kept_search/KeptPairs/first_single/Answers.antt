@@ -2,7 +2,7 @@
 use Rattle.std.proofs.Common.{◌∙◌, ◌<◌, sym, subst, length, arith}
 use Rattle.model_core.specs.Rules.Merge.{merge_at, first_merge}
 use Rattle.model_core.specs.Code.Views.{graph_of}
-use Rattle.merge_rules.specs.NothingCounted.{NothingCounted}
+use Rattle.model_facts.specs.NothingCounted.{NothingCounted}
 use Rattle.merge_rules.proofs.ConditionsAsked.PairsFound.{some_here, none_here}
 use Rattle.merge_rules.proofs.kept_search.KeptPairs.first_single.Goals as goal
 

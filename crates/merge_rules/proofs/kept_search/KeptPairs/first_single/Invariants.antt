@@ -1,8 +1,8 @@
 use Rattle.std.proofs.Common.{◌≡◌, length}
 use Rattle.model_core.specs.Rules.Merge.{merge_at, first_merge}
 use Rattle.model_core.specs.Code.Views.{graph_of}
-use Rattle.merge_rules.specs.FactsOfModel.{FactsAreRight}
-use Rattle.merge_rules.specs.NothingCounted.{NothingCounted}
+use Rattle.model_facts.specs.FactsOfModel.{FactsAreRight}
+use Rattle.model_facts.specs.NothingCounted.{NothingCounted}
 use Rattle.merge_rules.specs.KeptPairs.{PairsAreRight}
 use Rattle.merge_rules.proofs.ConditionsAsked.PairsFound.{first_from}
 use Rattle.merge_rules.proofs.kept_search.KeptPairs.first_single.Given as goal

@@ -2,9 +2,9 @@
 use Rattle.std.proofs.Common.{length, sym, subst}
 use Rattle.model_core.specs.EventGraph.{EventGraph}
 use Rattle.model_core.specs.Code.Views.{graph_of}
-use Rattle.merge_rules.specs.FactsOfModel.{FactsAreRight}
-use Rattle.merge_rules.specs.NothingCounted.{NothingCounted}
-use Rattle.reducer.specs.declared.progress.Progress.{Progress}
+use Rattle.model_facts.specs.FactsOfModel.{FactsAreRight}
+use Rattle.model_facts.specs.NothingCounted.{NothingCounted}
+use Rattle.model_facts.specs.declared.progress.Progress.{Progress}
 use Rattle.reducer.proofs.later_rules.UnfinishedReduction.find_and_drop.Goals as goal
 
 pub returns-clause-by_rule : goal.returns-clause-by_rule
@@ -19,6 +19,6 @@ returns-clause-by_rule c =
         counts = subst (λ (h : EventGraph). NothingCounted (length h.variables) c.drop_listed.new.self.progress.counts) (sym left)
             (subst (λ (p : Progress). NothingCounted (length g.variables) p.counts) (sym same) c.requires.progress.counts);
         reached = λ all. c.in_ok-drop_listed.ensures.all;
-        pairs = c.in_ok-self.ensures;
       };
+      pairs = c.in_ok-self.ensures;
     }

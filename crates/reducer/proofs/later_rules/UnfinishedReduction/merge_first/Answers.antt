@@ -1,12 +1,10 @@
 -- Merged and noted are the first two that can be, if there are any.
-use Rattle.std.proofs.Common.{◌≡◌, ℕ, map, length, Some, List, [], ◌∷◌, ◌++◌, refl, sym, ap₂, subst, ◌∙◌}
-use Rattle.model_core.specs.Code.Views.{graph_of, application_of}
+use Rattle.std.proofs.Common.{◌≡◌, length, Some, refl, sym, subst}
+use Rattle.model_core.specs.Code.Views.{graph_of}
 use Rattle.model_core.specs.Rules.Merge.{merged, first_merge}
-use Rattle.model_core.specs.Rules.Reduction.{Merge}
-use Rattle.merge_rules.specs.NothingCounted.{NothingCounted}
+use Rattle.model_facts.specs.NothingCounted.{NothingCounted}
 use Rattle.reducer.proofs.FirstLaterRule.{merge_holds, merge_made}
-use Rattle.reducer.proofs.CountsServe.{counts_for_code}
-use Rattle.reducer.proofs.RuleByRule.{noted_more}
+use Rattle.reducer.proofs.CountsForCode.{counts_for_code}
 use Rattle.reducer.proofs.later_rules.UnfinishedReduction.merge_first.Goals as goal
 
 pub first_merge-requires-clause-counts : goal.first_merge-requires-clause-counts
@@ -28,8 +26,9 @@ pub returns : goal.returns
 returns c =
     let g = graph_of c.args.self.now.model in
     let is : first_merge g ≡ Some (c.in-Some.first, c.in-Some.second) = sym c.in-Some.ensures.found in
-    let noted = noted_more _ _ _ c.in_ok-push.ensures.items ∙ ap₂ (λ (name other : List ℕ). map application_of c.args.self.now.applications.items ++ Merge name other ∷ []) c.in_ok-vertex.ensures c.in_ok-target.ensures in
+    let merged_pair = c.in_ok-merge_pair.ensures in
     record {
-      made = (merged g c.in-Some.first c.in-Some.second, _, merge_made g _ _ _ _ _ c.requires.underway.valid is refl noted, c.in_ok-merge_pair.ensures.left);
-      progress = c.in_ok-merge_pair.ensures.progress;
+      made = (merged g c.in-Some.first c.in-Some.second, _, merge_made g _ _ _ _ _ c.requires.underway.valid is refl refl, merged_pair.left);
+      progress = merged_pair.progress;
+      pairs = merged_pair.pairs;
     }

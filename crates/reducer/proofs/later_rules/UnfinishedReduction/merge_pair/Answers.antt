@@ -8,8 +8,8 @@ use Rattle.model_core.proofs.PlacesChanged.{length_placed}
 use Rattle.reducer.proofs.FirstLaterRule.{both_exist}
 use Rattle.reducer.proofs.later_rules.UnfinishedReduction.merge_pair.Goals as goal
 
-pub is_left_alone-requires : goal.is_left_alone-requires
-is_left_alone-requires c =
+pub leaves_second_unreached-requires : goal.leaves_second_unreached-requires
+leaves_second_unreached-requires c =
     let g = graph_of c.args.self.now.model in
     let first = c.args.first in
     let second = c.args.second in

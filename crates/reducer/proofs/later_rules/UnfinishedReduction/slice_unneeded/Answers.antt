@@ -17,4 +17,5 @@ returns c =
           (exactly_hold _ _ some listed)
           (λ done. slice_made g _ _ _ _ c.requires.valid some listed done.1 (noted_more _ _ _ c.in_ok-push.ensures.items ∙ ap (λ (names : List (List ℕ)). map application_of c.args.self.now.applications.items ++ Slice names ∷ []) (c.from_vec.ensures ∙ c.in_ok-names.ensures ∙ ap (map (variable_name g)) c.as_slice.ensures))));
       progress = c.in_ok-self.ensures;
+      pairs = c.in_ok-self-2.ensures;
     }

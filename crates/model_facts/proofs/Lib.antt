@@ -1,0 +1,4 @@
+pub mod EdgesChanged
+pub mod BodiesKept
+pub mod LengthLeft
+pub mod BodiesLeft
