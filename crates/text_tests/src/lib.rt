@@ -1,5 +1,5 @@
-//! Tests of reading and checking model texts, of merging what they spell, and of checking chains
-//! between models, through the public calls of the crates that do it.
+//! Tests of reading and checking model texts, of merging and fusing what they spell, and of checking
+//! chains between models, through the public calls of the crates that do it.
 #![tactic(auto)]
 
 #[cfg(test)]
@@ -12,3 +12,5 @@ mod narrowed_models;
 mod reading;
 #[cfg(test)]
 mod static_rules;
+#[cfg(test)]
+mod twins;
