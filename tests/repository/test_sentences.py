@@ -16,7 +16,7 @@ GROUPS = {
     "pages of crates": kept_files("crates/*/README.md"),
 }
 # How many of a hundred sentences may be long.
-ALLOWED = {"README and docs": 20, "pages of crates": 20}
+ALLOWED = {"README and docs": 10, "pages of crates": 10}
 
 
 def long_ones(page: Path) -> tuple[int, list[Sentence]]:
