@@ -175,3 +175,66 @@ def test_undo_past_open_brings_the_file_back(page: Browser) -> None:
     page.until(f"{ACCEPTED} && sigma.store.doc.file === 'bank.sigma'")
     assert page.js("return document.querySelector('.doc-state').textContent") == "Edited"
     wait_for_model(page)
+
+
+def test_nothing_of_another_model_is_left_over(page: Browser) -> None:
+    """New takes the graph, the form, the designs, the settings, the results and what was refused along."""
+    page.click(RUN)
+    page.until("sigma.run.result")
+    page.click("#tab-experiments")
+    page.click(".card.add")
+    page.until("sigma.store.doc.designs.length === 2")
+    page.js("sigma.store.set({ settings: { ...sigma.store.doc.settings, until: '77' } })")
+    edit(page, "QUEUE + 1", "QEUE + 1")
+    page.until("document.querySelector('.text-state.refused')")
+    page.js("sigma.command('new')")
+    page.click("dialog .choices button:nth-child(2)")
+    page.until("sigma.store.doc.text === ''")
+    page.until("!document.querySelector('.stage-pane .node')")
+    left = page.js(
+        "const seen = css => document.querySelectorAll(css).length;"
+        "return [sigma.store.doc.file, sigma.store.doc.designs.length, sigma.store.doc.settings.until,"
+        " seen('.design'), seen('.results .panel'), seen('.inspector [data-field]'),"
+        " seen('.text-state.refused'), document.querySelector('.doc-title').textContent,"
+        " sigma.run.result]"
+    )
+    assert left == ["", 1, "480", 1, 0, 0, 0, "Untitled", None]
+    page.chord("Control", "k")
+    assert page.js("return document.querySelector('dialog input').value") == ""
+
+
+def test_a_refused_file_shows_no_graph_and_no_form_of_the_one_before(page: Browser) -> None:
+    """Beside a text that is no model stands no other one."""
+    page.js("sigma.files.open({ ...sigma.store.doc, text: 'modle X;', saved: 'modle X;' }, 'Open')")
+    page.until("document.querySelector('.text-state.refused')")
+    page.until("!document.querySelector('.stage-pane .node')")
+    assert not page.js("return document.querySelectorAll('.inspector [data-field]').length")
+
+
+def test_conflicts_and_the_description_are_of_the_text_or_marked(page: Browser) -> None:
+    """From the first key on what is shown is dimmed, until it is that of the new text."""
+    for tab in ("conflicts", "describe"):
+        page.click(f"#tab-{tab}")
+        page.until(f"document.querySelector('.{tab}-tab :is(.panel, section)')", 60)
+        page.until(f"!document.querySelector('.{tab}-tab.is-stale')")
+        edit(page, "var GAP : 1..6", "var GAP : 1..7")
+        assert page.js(
+            f"return document.querySelector('.{tab}-tab').classList.contains('is-stale')"
+        )
+        page.until(f"!document.querySelector('.{tab}-tab.is-stale')", 60)
+        page.js("sigma.store.undo()")
+
+
+def test_the_report_marks_what_is_out_of_date(page: Browser) -> None:
+    """A run of an older text is printed with the mark that it has on the screen."""
+    page.js("window.print = () => { window.printed = true }")
+    page.click(RUN)
+    page.until("sigma.run.result")
+    page.js("sigma.command('print')")
+    page.until("window.printed")
+    assert not page.js("return document.querySelectorAll('#report .stale').length")
+    edit(page, "3..9;", "3..8;")
+    page.until("document.querySelector('.run-tab .stale')")
+    page.js("window.printed = false; sigma.command('print')")
+    page.until("window.printed")
+    assert "Out of date" in page.js("return document.querySelector('#report .stale').textContent")

@@ -309,7 +309,7 @@ def refused(wrong: Wrong, room: Path) -> bool:
     )
     if built.returncode:
         raise SystemExit(f"{wrong.name}: esbuild refuses it, which shows nothing")
-    node = ["/usr/bin/node", "--test", made]
+    node: list[str | Path] = ["/usr/bin/node", "--test", made]
     try:
         ran = subprocess.run(
             node, cwd=room, env=places, capture_output=True, timeout=LONGEST, check=False

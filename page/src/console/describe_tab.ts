@@ -9,7 +9,12 @@ export class DescribeTab implements Tab {
   readonly element = h("div", { className: "describe-tab" });
   private is_shown = false;
   private of = -1;
-  constructor(private readonly app: App) { app.store.listen(change => { if (change === "verdict" && this.is_shown) void this.ask(); }); }
+  constructor(private readonly app: App) {
+    app.store.listen(change => {
+      if (change === "text" && this.of !== app.store.revision) this.element.classList.add("is-stale");
+      if (change === "verdict" && this.is_shown) void this.ask();
+    });
+  }
   shown(): void { this.is_shown = true; void this.ask(); }
   hidden(): void { this.is_shown = false; }
 
@@ -20,9 +25,10 @@ export class DescribeTab implements Tab {
     const answer = await engine.call({ words: ["describe"], input: verdict.model.text });
     if (store.revision !== verdict.revision || !this.is_shown) return;
     this.of = verdict.revision;
+    this.element.classList.remove("is-stale");
     this.element.replaceChildren(h("div", { className: "described" }, ...groups_of(answer.out).map(({ title, lines }) => h("section", {}, h("h3", {}, ...this.linked(title)), ...lines.map(line => h("p", {}, ...this.linked(line)))))));
   }
-  private blank(title: string): void { this.element.replaceChildren(h("div", { className: "blank" }, icon("text", 30), h("h3", {}, title))); }
+  private blank(title: string): void { this.element.classList.remove("is-stale"); this.element.replaceChildren(h("div", { className: "blank" }, icon("text", 30), h("h3", {}, title))); }
 
   /** Names of events can be followed. */
   private linked(line: string): (Node | string)[] {
