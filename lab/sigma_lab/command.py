@@ -165,9 +165,13 @@ def number(value: float) -> str:
     return f"{value:.0f}" if 1e5 <= abs(value) < 1e15 else f"{value:.6g}"
 
 
+_CONTROL = re.compile(r"[\x00-\x08\x0b-\x1f\x7f-\x9f]")
+
+
 def say(line: str) -> None:
-    """A line on the error output."""
-    print(f"{NAME}: {line}", file=sys.stderr, flush=True)
+    """A line on the error output; control characters, which a terminal would obey, are written by their numbers."""
+    shown = _CONTROL.sub(lambda found: f"\\x{ord(found[0]):02x}", line)
+    print(f"{NAME}: {shown}", file=sys.stderr, flush=True)
 
 
 # Words that commands share

@@ -366,6 +366,8 @@ def measure(text: str) -> Measure | EventMeasure:
     found = _WORDS.fullmatch(text)
     if found and re.search(r"[\w\])]$", found[1]) and found[1].split()[-1] not in _JOINTS:
         words, above, below, *unit = found.groups()
+        if named := re.search(r"[\w\]]\.([a-z]+)", words):
+            raise InputError(f"{text!r} names two columns, {named[1]} and {above}")
         return Measure(words, *unit_of(*unit), columns=(above, below or above))
     found = _FORMULA.fullmatch(text)
     if not found:

@@ -248,3 +248,18 @@ def test_a_history_without_its_beginning() -> None:
     assert made.estimate.value == pytest.approx(expected)
     with pytest.raises(InputError, match="begins after the first edge"):
         History.parse(late).areas("A", np.array([0, 5000]))
+
+
+def test_no_control_character_reaches_a_terminal(
+    lab: Lab, tmp_path: Path, capsys: pytest.CaptureFixture[str]
+) -> None:
+    """A name in a file could set the title of a terminal, or more."""
+    spoilt = tmp_path / "esc.csv"
+    spoilt.write_text(report("1,1,ended,10,\x1b]0;owned\a,0,4,1,20,"))
+    said = lab("means", "QUEUE", spoilt, status=1)
+    assert "\\x1b]0;owned\\x07" in said and not re.search(r"[\x00-\x08\x0b-\x1f\x7f]", said)
+    model = tmp_path / "esc.sigma"
+    model.write_text("model M; \x1b]0;owned\a vertex V { }\nend\n")
+    assert cli.main(["place", str(model)]) == 1
+    shown = capsys.readouterr()
+    assert "?]0;owned?" in shown.out + shown.err and "\x1b" not in shown.out + shown.err

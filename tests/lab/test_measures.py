@@ -94,6 +94,7 @@ def test_measures_at_events() -> None:
         ("", "no item"),
         ("1 + 2", "no item"),
         ("QUEUE least greatest", "formula"),
+        ("QUEUE.least greatest", "names two columns, least and greatest"),
         ("QUEUE.count", "is a variable"),
         ("QUEUE last/count", "one column"),
         ("__import__('os')", "formula"),
