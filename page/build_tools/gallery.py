@@ -64,12 +64,12 @@ def questions() -> dict[str, dict[str, str]]:
 
 
 def run_words() -> dict[str, str]:
-    """Return the words of a run of each example: those of its stored answer, or of `example_words`."""
+    """Return the words of a run of each example: those of `example_words`, or else of its stored answer."""
     words = {}
+    for file in sorted((ROOT / "examples" / "answers").glob("*.run.words")):
+        words[file.name.removesuffix(".run.words")] = file.read_text(encoding="utf-8").strip()
     for line in (PAGE / "example_words").read_text(encoding="utf-8").splitlines():
         if line and not line.startswith("#"):
             name, _, rest = line.partition(" ")
             words[name] = rest
-    for file in sorted((ROOT / "examples" / "answers").glob("*.run.words")):
-        words[file.name.removesuffix(".run.words")] = file.read_text(encoding="utf-8").strip()
     return words

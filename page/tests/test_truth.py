@@ -190,7 +190,7 @@ def test_nothing_of_another_model_is_left_over(page: Browser) -> None:
     page.js("sigma.command('new')")
     page.click("dialog .choices button:nth-child(2)")
     page.until("sigma.store.doc.text === ''")
-    page.until("!document.querySelector('.stage-pane .node')")
+    page.until("!document.querySelector('.stage-pane [data-part^=\"event:\"]')")
     left = page.js(
         "const seen = css => document.querySelectorAll(css).length;"
         "return [sigma.store.doc.file, sigma.store.doc.designs.length, sigma.store.doc.settings.until,"
@@ -207,7 +207,7 @@ def test_a_refused_file_shows_no_graph_and_no_form_of_the_one_before(page: Brows
     """Beside a text that is no model stands no other one."""
     page.js("sigma.files.open({ ...sigma.store.doc, text: 'modle X;', saved: 'modle X;' }, 'Open')")
     page.until("document.querySelector('.text-state.refused')")
-    page.until("!document.querySelector('.stage-pane .node')")
+    page.until("!document.querySelector('.stage-pane [data-part^=\"event:\"]')")
     assert not page.js("return document.querySelectorAll('.inspector [data-field]').length")
 
 
