@@ -65,7 +65,7 @@ map-long : {A B : Type 0} (f : A → B) (as_ : List A) → length (map f as_) �
 map-long f [] = refl
 map-long f (a ∷ as_) = ap suc (map-long f as_)
 
-regrouped : {A B C : Type 0} (r : OrFault A) (f : A → OrFault B) (h : B → OrFault C) → run.◌>>=◌ r (λ x. run.◌>>=◌ (f x) h) ≡ run.◌>>=◌ (run.◌>>=◌ r f) h
+pub regrouped : {A B C : Type 0} (r : OrFault A) (f : A → OrFault B) (h : B → OrFault C) → run.◌>>=◌ r (λ x. run.◌>>=◌ (f x) h) ≡ run.◌>>=◌ (run.◌>>=◌ r f) h
 regrouped (Ok x) f h = refl
 regrouped (Err k) f h = refl
 

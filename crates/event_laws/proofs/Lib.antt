@@ -6,3 +6,6 @@ pub mod CellsWritten
 pub mod StoredTrees
 pub mod WordsMeet
 pub mod ChangesFollow
+pub mod DelaysFollow
+pub mod EdgesFollow
+pub mod EventFollows

@@ -27,6 +27,19 @@ module _ (v : Valuation) where
     by (Ok a) e b (fine, is) = go b a e fine is
     by (Err f) e b failed = stop b f failed
 
+  -- the same, where something else is known of the step
+  pub reach_known : {A B C D : Type 0} (K : B → Type 0) (first : B → Noted) (last : D → Noted) (R : A → B → Type 0) (S : C → D → Type 0) (o : Option B) (next : B → Option D) (r : OrFault A) (h : A → OrFault C)
+      → Gives o K
+      → Gives o (Reaches first R r)
+      → ((b : B) (f : FaultKind) → K b → FailedIn v f (first b) → Gives (next b) (λ d. FailedIn v f (last d)))
+      → ((b : B) (a : A) → K b → Fine v (first b) → R a b → Gives (next b) (Reaches last S (h a)))
+      → Gives (o >>= next) (Reaches last S (run.◌>>=◌ r h))
+  reach_known {A} {B} {C} {D} K first last R S o next r h known reached stop go =
+      then_gives (λ b. K b × Reaches first R r b) (Reaches last S (run.◌>>=◌ r h)) o next (record { gives = λ b e. (known.gives b e, reached.gives b e) }) (λ b both. by r b both.0 both.1) where
+        by : (q : OrFault A) → (b : B) → K b → Reaches first R q b → Gives (next b) (Reaches last S (run.◌>>=◌ q h))
+        by (Ok a) b k (fine, is) = go b a k fine is
+        by (Err f) b k failed = stop b f k failed
+
   -- a tree with the value of an expression
   abbrev pub HasValue : ℤ → Valued → Type 0
   HasValue x w = tree_value v w.tree ≡ x

@@ -1,7 +1,8 @@
-//! Laws of events: what is made of an event in trees follows its run. The functions have empty bodies: what they ensure holds of
-//! all models.
+//! Laws of events: what is made of an event in trees follows its run. What the functions ensure holds of all models.
 #![tactic(auto)]
 
 mod changes;
+mod events;
 
 pub use changes::trees_of_changes_follow_a_run;
+pub use events::trees_of_events_follow_a_run;

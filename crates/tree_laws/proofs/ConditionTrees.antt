@@ -234,7 +234,7 @@ module _ (v : Valuation) (ground : Ground) (meets : Meets ground v) where
 
   -- ---- learned, and the ends of trees
 
-  is_zero-value : (t : CaseTree) → is_zero_tree t ≡ true → tree_value v t ≡ pos 0
+  pub is_zero-value : (t : CaseTree) → is_zero_tree t ≡ true → tree_value v t ≡ pos 0
   is_zero-value (Leaf s) e = leaf-value v s ∙ ap (sum_value v) (true-same_sum s (number (pos 0)) e) ∙ number-value v (pos 0)
   is_zero-value (Case p m low high) e = cc
 
