@@ -2,7 +2,7 @@
 _sigma() {
     local word=${COMP_WORDS[COMP_CWORD]} before=${COMP_WORDS[COMP_CWORD - 1]} command='' given=' ' options='' each
     # share/make writes from share/commands: commands of bash
-    local commands=' check print describe uses conflicts run replicate save resume reduce certify fuse narrow trial '
+    local commands=' check print describe uses conflicts run replicate save resume reduce certify compare fuse narrow trial '
     # By hand.
     COMPREPLY=()
     case $word in
@@ -29,6 +29,7 @@ _sigma() {
         replicate) options='--until --seed --events --runs --start --stride' ;;
         save) options='--until --seed --events --start' ;;
         resume) options='--until --events --room' ;;
+        compare) options='--until --seed --events --runs --start' ;;
         trial) options='--seed --vertices --until --events' ;;
         # By hand.
     esac

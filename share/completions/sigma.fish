@@ -19,6 +19,7 @@ set -l lines \
     'resume|Continues a saved run' \
     'reduce|Takes out of a model what it doesn'\''t need' \
     'certify|Checks a reduction that another program or a person made' \
+    'compare|Says whether two models differ, and where' \
     'fuse|Merges duplicated vertices' \
     'narrow|Declares ranges that no run leaves' \
     'trial|Draws a model from a number, reduces it and runs both'
@@ -31,12 +32,12 @@ for i in (seq (count $words))
     complete -c sigma -n "not __fish_seen_subcommand_from $words" -a $words[$i] -d $texts[$i]
 end
 # share/make writes from share/commands: options of fish
-complete -c sigma -n '__sigma_option until run replicate save resume trial' -l until -x -d 'The stop time, in ticks'
-complete -c sigma -n '__sigma_option seed run replicate save trial' -l seed -x -d 'The seed of the random streams'
+complete -c sigma -n '__sigma_option until run replicate save resume compare trial' -l until -x -d 'The stop time, in ticks'
+complete -c sigma -n '__sigma_option seed run replicate save compare trial' -l seed -x -d 'The seed of the random streams'
 complete -c sigma -n '__sigma_option vertices trial' -l vertices -x -d 'How many vertices the model has'
-complete -c sigma -n '__sigma_option events run replicate save resume trial' -l events -x -d 'The most events that are made'
-complete -c sigma -n '__sigma_option runs replicate' -l runs -x -d 'How many runs are made'
+complete -c sigma -n '__sigma_option events run replicate save resume compare trial' -l events -x -d 'The most events that are made'
+complete -c sigma -n '__sigma_option runs replicate compare' -l runs -x -d 'How many runs are made'
 complete -c sigma -n '__sigma_option stride replicate' -l stride -x -d 'From one run'\''s seed to the next, else 1'
-complete -c sigma -n '__sigma_option start run replicate save' -l start -x -d 'As --start=-3,4'
+complete -c sigma -n '__sigma_option start run replicate save compare' -l start -x -d 'As --start=-3,4'
 complete -c sigma -n '__sigma_option room run resume' -l room -x -d 'Pending events with room, else 4096'
 # By hand.

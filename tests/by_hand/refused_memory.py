@@ -91,6 +91,7 @@ ROWS = [
     Row("run --until 1005 --seed 42 --events 100000 --room 0", CROWD, comes=True),
     Row("reduce", BANK),
     Row("certify", CHAIN, before="reduce"),
+    Row("compare --until 12 --seed 42 --events 1000 --runs 2", CLOCK + CLOCK),
     Row("replicate --until 12 --seed 1 --events 100 --runs 2", CLOCK, comes=True),
     Row("replicate --until 1 --seed 1 --events 10 --runs 3", WIDE, comes=True),
     Row(TRIAL, ""),

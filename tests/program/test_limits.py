@@ -124,6 +124,12 @@ def test_the_longest_lists_for_certify(call: Program) -> None:
     call("certify", full()["print"] + full()["reduce"]).gives(full()["certify"])
 
 
+def test_the_longest_lists_for_compare(call: Program) -> None:
+    """The same for two texts, of which nothing is known."""
+    text = full()["print"]
+    call(f"compare {FULL_WORDS} --events 1 --runs 1", text + text).ends(13, b"unknown\n")
+
+
 def test_the_longest_lists_for_resume(call: Program) -> None:
     """The same for a saved run."""
     words = f"resume --until {limits.UNTIL} --events {limits.EVENTS - 1} --room {limits.ROOM}"

@@ -25,6 +25,8 @@ exit_status_of statuses.Rejected = 8
 exit_status_of statuses.BadStart = 9
 exit_status_of statuses.Finished = 10
 exit_status_of statuses.TooLarge = 11
+exit_status_of statuses.Differs = 12
+exit_status_of statuses.Unknown = 13
 
 -- the status of a job that writes
 abbrev pub status_of_end : End → Status
@@ -32,6 +34,8 @@ status_of_end ends.Done = statuses.Done
 status_of_end ends.ModelFault = statuses.ModelFault
 status_of_end ends.Budget = statuses.Budget
 status_of_end ends.Rejected = statuses.Rejected
+status_of_end ends.Differs = statuses.Differs
+status_of_end ends.Unknown = statuses.Unknown
 
 -- the status of a refusal
 abbrev pub status_of_refusal : Refusal → Status

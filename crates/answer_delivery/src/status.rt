@@ -12,7 +12,7 @@ use sig_base::NoMemory;
 pub enum Status {
     /// The job is done: the input was read to its end, and everything was written and finished.
     Done,
-    /// The text is too long, or reads as no model, or for `certify` and `resume` as no document.
+    /// The text is too long, or reads as no model, or for `certify`, `compare` and `resume` as no document.
     Refused,
     /// The words are no job.
     Usage,
@@ -34,6 +34,10 @@ pub enum Status {
     Finished,
     /// What is saved of the run, with its model, is longer than a document may be.
     TooLarge,
+    /// The two models don't mean the same, and what shows it is written.
+    Differs,
+    /// Whether the two models mean the same isn't known, and this is written.
+    Unknown,
 }
 
 impl Status {
@@ -54,6 +58,8 @@ impl Status {
             Status::BadStart => 9,
             Status::Finished => 10,
             Status::TooLarge => 11,
+            Status::Differs => 12,
+            Status::Unknown => 13,
         }
     }
 }
@@ -69,6 +75,10 @@ pub enum End {
     Budget,
     /// The certificate doesn't hold.
     Rejected,
+    /// The two models don't mean the same.
+    Differs,
+    /// Whether they do isn't known.
+    Unknown,
 }
 
 impl End {
@@ -81,6 +91,8 @@ impl End {
             End::ModelFault => Status::ModelFault,
             End::Budget => Status::Budget,
             End::Rejected => Status::Rejected,
+            End::Differs => Status::Differs,
+            End::Unknown => Status::Unknown,
         }
     }
 }
@@ -88,7 +100,7 @@ impl End {
 /// Why a job writes nothing.
 #[derive(Clone, Copy, Debug, PartialEq, Eq)]
 pub enum Refusal {
-    /// The text is too long, or reads as no model, or for `certify` and `resume` as no document.
+    /// The text is too long, or reads as no model, or for `certify`, `compare` and `resume` as no document.
     Refused,
     /// The starting values of the run aren't allowed, or a saved run can't go on as it is asked to.
     BadStart,

@@ -13,11 +13,13 @@ use Rattle.model_core.specs.Static.Reading.{Reads, ReadsDocument}
 use Rattle.answer_delivery.specs.declared.answer.Answer.{Answer}
 use Rattle.answer_delivery.specs.declared.complaint.Complaint.{Complaint}
 use Rattle.answer_delivery.specs.AnswerForms.{refused, too_long}
-use Rattle.job_answers.specs.AnswerLaws.{DocumentParts, SavedParts, MayBeAsked, KeepsAnswerLaws}
-use Rattle.job_answers.specs.Answers.{AnswersModel, AnswersDocument, AnswersSaved, IsRefused, Responds, IsWithin, IsOver, Answers}
+use Rattle.job_answers.specs.AnswerLaws.{DocumentParts, PairParts, SavedParts, MayBeAsked, KeepsAnswerLaws}
+use Rattle.job_answers.specs.Answers.{AnswersModel, AnswersDocument, AnswersPair, AnswersSaved, IsRefused, Responds, IsWithin, IsOver, Answers}
 use Rattle.answer_delivery.specs.Complaints.{IsComplaint, message_of, byte_line}
-use Rattle.job_answers.specs.TextComplaints.{HasComplaint, HasDocumentComplaint, HasSavedComplaint}
+use Rattle.job_answers.specs.TextComplaints.{HasComplaint, HasDocumentComplaint, HasPairComplaint, HasSavedComplaint}
 use Rattle.job_answers.specs.DocumentComplaints.{IsDocumentComplaint}
+use Rattle.job_answers.specs.PairComplaints.{IsPairComplaint}
+use Rattle.job_answers.specs.PairReading.{ReadsPair}
 use Rattle.job_answers.specs.SavedComplaints.{IsSavedComplaint}
 use Rattle.job_answers.specs.SavedReading.{ReadsSaved}
 
@@ -33,6 +35,13 @@ pub record DocumentLaws : Type 0 where
   pub none : (text : List ℕ) (c : Complaint) (i : ℕ) (g : EventGraph) (applications : List RuleApplication) (h : EventGraph) → IsDocumentComplaint text c i → ReadsDocument text g applications h → ⊥
   pub one_reading : (text : List ℕ) (g h k l : EventGraph) (a b : List RuleApplication) → ReadsDocument text g a h → ReadsDocument text k b l → (g ≡ k) × (a ≡ b) × (h ≡ l)
   pub some : (text : List ℕ) → length text ≤ DOCUMENT_MAX → HasDocumentComplaint text ⊎ ((g : EventGraph) × (applications : List RuleApplication) × (h : EventGraph) × ReadsDocument text g applications h)
+
+-- and of each document of two texts
+pub record PairLaws : Type 0 where
+  pub one : (text : List ℕ) (c d : Complaint) (i j : ℕ) → IsPairComplaint text c i → IsPairComplaint text d j → (c ≡ d) × (i ≡ j)
+  pub none : (text : List ℕ) (c : Complaint) (i : ℕ) (g h : EventGraph) → IsPairComplaint text c i → ReadsPair text g h → ⊥
+  pub one_reading : (text : List ℕ) (g h k l : EventGraph) → ReadsPair text g h → ReadsPair text k l → (g ≡ k) × (h ≡ l)
+  pub some : (text : List ℕ) → length text ≤ DOCUMENT_MAX → HasPairComplaint text ⊎ ((g : EventGraph) × (h : EventGraph) × ReadsPair text g h)
 
 -- and of each saved document
 pub record SavedLaws : Type 0 where
@@ -56,7 +65,7 @@ one_refusal IsSo one a b p q =
     let (what, at) = one p.what q.what p.at q.at p.complaint q.complaint in
     p.refuses ∙ ap₂ (λ i c. refused (byte_line i (message_of c))) at what ∙ sym q.refuses
 
-module _ (complaints : ComplaintLaws) (documents : DocumentLaws) (saved : SavedLaws) (text : List ℕ) where
+module _ (complaints : ComplaintLaws) (documents : DocumentLaws) (pairs : PairLaws) (saved : SavedLaws) (text : List ℕ) where
   -- ---- there is one
 
   refusal : (IsSo : Complaint → ℕ → Type 0) (what : Complaint) (at : ℕ) → IsSo what at → IsRefused IsSo (refused (byte_line at (message_of what)))
@@ -75,6 +84,11 @@ module _ (complaints : ComplaintLaws) (documents : DocumentLaws) (saved : SavedL
       by (inr (g, applications, h, reads)) =
           let w = laws.exists (g, applications, h) tt in
           (w.0, inr (g, applications, h, reads, w.1))
+  text_answered (readings.Pair job) laws asked within = by (pairs.some text within)
+    where
+      by : HasPairComplaint text ⊎ ((g : EventGraph) × (h : EventGraph) × ReadsPair text g h) → (a : Answer) × Responds (readings.Pair job) text a
+      by (inl c) = (_, inl (refusal (IsPairComplaint text) c.0 c.1 c.2))
+      by (inr (g, h, reads)) = let w = laws.exists (g, h) tt in (w.0, inr (g, h, reads, w.1))
   text_answered (readings.Saved job) laws asked within = by (saved.some text within)
     where
       by : HasSavedComplaint text ⊎ ((g : EventGraph) × (s : SavedRun) × ReadsSaved text g s) → (a : Answer) × Responds (readings.Saved job) text a
@@ -104,6 +118,13 @@ module _ (complaints : ComplaintLaws) (documents : DocumentLaws) (saved : SavedL
         let same = documents.one_reading text y.0 y.2 x.0 x.2 y.1 x.1 y.3 x.3 in
         let parts : ◌≡◌ {A = DocumentParts} (y.0, y.1, y.2) (x.0, x.1, x.2) = λ i. (same.0 i, same.1 i, same.2 i) in
         laws.one (x.0, x.1, x.2) a b x.4 (subst (λ (d : DocumentParts). AnswersDocument job d.0 d.1 d.2 b) parts y.4)
+    one_response (readings.Pair job) laws a b (inl x) (inl y) = one_refusal (IsPairComplaint text) (pairs.one text) a b x y
+    one_response (readings.Pair job) laws a b (inl x) (inr y) = absurd (pairs.none text x.what x.at y.0 y.1 x.complaint y.2)
+    one_response (readings.Pair job) laws a b (inr x) (inl y) = absurd (pairs.none text y.what y.at x.0 x.1 y.complaint x.2)
+    one_response (readings.Pair job) laws a b (inr x) (inr y) =
+        let same = pairs.one_reading text y.0 y.1 x.0 x.1 y.2 x.2 in
+        let parts : ◌≡◌ {A = PairParts} (y.0, y.1) (x.0, x.1) = λ i. (same.0 i, same.1 i) in
+        laws.one (x.0, x.1) a b x.3 (subst (λ (d : PairParts). AnswersPair job d.0 d.1 b) parts y.3)
     one_response (readings.Saved job) laws a b (inl x) (inl y) = one_refusal (IsSavedComplaint text) (saved.one text) a b x y
     one_response (readings.Saved job) laws a b (inl x) (inr y) = absurd (saved.none text x.what x.at y.0 y.1 x.complaint y.2)
     one_response (readings.Saved job) laws a b (inr x) (inl y) = absurd (saved.none text y.what y.at x.0 x.1 y.complaint x.2)

@@ -13,13 +13,13 @@ ghost use Rattle.answer_delivery.specs.declared.status.Status.{Status};
 ghost use Rattle.answer_delivery.specs.AnswerForms.{refused, too_long};
 ghost use Rattle.job_answers.specs.AnswerLaws.{MayBeAsked};
 ghost use Rattle.job_answers.specs.Answers.{IsOver, Answers};
-ghost use Rattle.job_answers.specs.TextComplaints.{HasComplaint, HasDocumentComplaint, HasSavedComplaint};
+ghost use Rattle.job_answers.specs.TextComplaints.{HasComplaint, HasDocumentComplaint, HasPairComplaint, HasSavedComplaint};
 ghost use Rattle.answer_delivery.specs.Statuses.{status_of_answer};
-ghost use Rattle.answer_laws.specs.Unreadable.{IsNoModel, IsNoDocument, IsNoSavedDocument, IsUnreadable};
+ghost use Rattle.answer_laws.specs.Unreadable.{IsNoModel, IsNoDocument, IsNoPair, IsNoSavedDocument, IsUnreadable};
 
 use job_answers::{
-    answers_keep_their_laws, documents_have_one_complaint, saved_documents_have_one_complaint,
-    texts_have_one_complaint,
+    answers_keep_their_laws, documents_have_one_complaint, pairs_have_one_complaint,
+    saved_documents_have_one_complaint, texts_have_one_complaint,
 };
 use reducer::strategies_are_determined;
 use text_laws::texts_read_as_one_model;
@@ -40,12 +40,14 @@ pub fn answers_are_determined()
     answers_keep_their_laws();
     texts_have_one_complaint();
     documents_have_one_complaint();
+    pairs_have_one_complaint();
     saved_documents_have_one_complaint();
     texts_read_as_one_model();
     strategies_are_determined();
 }
 
-/// Refused is exactly what can't be read: a text that reads as no model, and for `certify` and `resume` as no document.
+/// Refused is exactly what can't be read: a text that reads as no model, for `compare` as no two models, and for
+/// `certify` and `resume` as no document.
 /// Within the limit such a text has a complaint, and no other has one; over the limit nothing can be read.
 pub fn unreadable_texts_are_refused()
     ensures refused { (job : Job) (text : List ℕ) (a : Answer) → Answers (reading_of job) text a
@@ -54,6 +56,8 @@ pub fn unreadable_texts_are_refused()
         → HasComplaint text ↔ IsNoModel text }
     ensures document_complaint { (text : List ℕ) → length text ≤ DOCUMENT_MAX
         → HasDocumentComplaint text ↔ IsNoDocument text }
+    ensures pair_complaint { (text : List ℕ) → length text ≤ DOCUMENT_MAX
+        → HasPairComplaint text ↔ IsNoPair text }
     ensures saved_complaint { (text : List ℕ) → length text ≤ DOCUMENT_MAX
         → HasSavedComplaint text ↔ IsNoSavedDocument text }
     ensures too_long { (job : Job) (text : List ℕ) → IsOver (limit_of (reading_of job)) text
@@ -62,5 +66,6 @@ pub fn unreadable_texts_are_refused()
     answers_keep_their_laws();
     texts_have_one_complaint();
     documents_have_one_complaint();
+    pairs_have_one_complaint();
     saved_documents_have_one_complaint();
 }

@@ -208,6 +208,9 @@ replicate = option_after stride (option_after start (option_after runs (option_a
 abbrev save : LawfulOptions Job Keeps
 save = option_after start (option_after events (option_after seed (option_after until (lawful_without _ jobs.Save (λ _ soon seed wide _ within_budget _ _. (soon.1, omega (arith, wide.1), within_budget.1))))))
 
+abbrev compare : LawfulOptions Job Keeps
+compare = option_after runs (option_after start (option_after events (option_after seed (option_after until (lawful_without _ jobs.Compare (λ _ soon seed wide _ within_budget _ _ _ many. (soon.1, omega (arith, wide.1), within_budget.1, many.0, many.1)))))))
+
 abbrev resume : LawfulOptions Job Keeps
 resume = option_after room (option_after events (option_after until (lawful_without _ jobs.Resume (λ _ soon _ within_budget _ roomy. (soon.1, within_budget.1, roomy.1)))))
 
@@ -234,7 +237,7 @@ commands_lawful = (
                 bare jobs.Narrow tt,
                 (
                   bare jobs.Describe tt,
-                  (run.1, (replicate.1, (save.1, (resume.1, (trial.1, tt))))),
+                  (run.1, (replicate.1, (compare.1, (save.1, (resume.1, (trial.1, tt)))))),
                 ),
               ),
             ),

@@ -88,6 +88,7 @@ commands =
     ∷ (codes "describe", no_options jobs.Describe)
     ∷ (codes "run", no_options jobs.Run ⊛ until_option ⊛ seed_option ⊛ events_option ⊛ start_option ⊛ room_option)
     ∷ (codes "replicate", no_options jobs.Replicate ⊛ until_option ⊛ seed_option ⊛ events_option ⊛ runs_option ⊛ start_option ⊛ stride_option)
+    ∷ (codes "compare", no_options jobs.Compare ⊛ until_option ⊛ seed_option ⊛ events_option ⊛ start_option ⊛ runs_option)
     ∷ (codes "save", no_options jobs.Save ⊛ until_option ⊛ seed_option ⊛ events_option ⊛ start_option)
     ∷ (codes "resume", no_options jobs.Resume ⊛ until_option ⊛ events_option ⊛ room_option)
     ∷ (codes "trial", no_options jobs.Trial ⊛ seed_option ⊛ vertices_option ⊛ until_option ⊛ events_option)

@@ -11,7 +11,7 @@ ghost use Rattle.command_words.specs.Inner.ClapCommand.{has_one_dash, rows_in};
 ghost use Rattle.command_words.specs.Inner.MatchedJobs.{asked_by, has_only, may_be_given, matched_job, matched_values};
 ghost use Rattle.command_words.specs.Readings.{reading_of};
 ghost use Rattle.command_words.specs.KeptLimits.{KeepsLimits};
-ghost use Rattle.command_words.specs.Jobs.{no_options, options_of, job_of, until_option, seed_option, events_option, start_option, stride_option, room_option};
+ghost use Rattle.command_words.specs.Jobs.{no_options, options_of, job_of, until_option, seed_option, events_option, runs_option, start_option, stride_option, room_option};
 
 use crate::argument_values::{number_within, starting_values};
 use crate::clap_matches::{matched, option_names, text_of, with_program};
@@ -111,6 +111,13 @@ fn events_of(matches: &ArgMatches<'_>) -> Result<u64, WordsError>
     needed_number(matches, "events", 1, EVENTS_MAX)
 }
 
+/// How many runs there are.
+fn runs_of(matches: &ArgMatches<'_>) -> Result<u64, WordsError>
+    ensures { Asked (runs_option.gives (matched_values (rows_in matches.now))) result }
+{
+    needed_number(matches, "runs", 1, RUNS_MAX)
+}
+
 /// The room of a run, in pending events.
 fn room_of(matches: &ArgMatches<'_>) -> Result<usize, WordsError>
     ensures { Asked (room_option.gives (matched_values (rows_in matches.now))) result }
@@ -188,7 +195,7 @@ fn replicate_of(alloc: Global, matches: &ArgMatches<'_>) -> Result<Job, WordsErr
     let until = until_of(matches)?;
     let seed = seed_of(matches)?;
     let events = events_of(matches)?;
-    let runs = needed_number(matches, "runs", 1, RUNS_MAX)?;
+    let runs = runs_of(matches)?;
     let starts = starts_of(alloc, matches)?;
     let stride = stride_of(matches)?;
     Ok(Job::Replicate {
@@ -198,6 +205,27 @@ fn replicate_of(alloc: Global, matches: &ArgMatches<'_>) -> Result<Job, WordsErr
         runs,
         starts,
         stride,
+    })
+}
+
+/// The job `compare`, by its options.
+fn compare_of(alloc: Global, matches: &ArgMatches<'_>) -> Result<Job, WordsError>
+    ensures { Asked (asked_by (options_of (codes "compare")) (rows_in matches.now)) result }
+{
+    if !has_only(&[b"until", b"seed", b"events", b"start", b"runs"], matches) {
+        return Err(WordsError::BadWords);
+    }
+    let until = until_of(matches)?;
+    let seed = seed_of(matches)?;
+    let events = events_of(matches)?;
+    let starts = starts_of(alloc, matches)?;
+    let runs = runs_of(matches)?;
+    Ok(Job::Compare {
+        until,
+        seed,
+        events,
+        starts,
+        runs,
     })
 }
 
@@ -282,6 +310,8 @@ fn command_job(alloc: Global, word: &[u8], matches: &ArgMatches<'_>) -> Result<J
         run_of(alloc, matches)
     } else if word == b"replicate".as_slice() {
         replicate_of(alloc, matches)
+    } else if word == b"compare".as_slice() {
+        compare_of(alloc, matches)
     } else if word == b"save".as_slice() {
         save_of(alloc, matches)
     } else if word == b"resume".as_slice() {

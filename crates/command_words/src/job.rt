@@ -3,7 +3,8 @@
 ghost use Rattle.std.specs.Prelude.{◌≡◌};
 ghost use Rattle.command_words.specs.Readings.{reading_of};
 
-use crate::reading::{BareJob, DocumentJob, ModelJob, Reading, SavedJob};
+use crate::compare_options::CompareOptions;
+use crate::reading::{BareJob, DocumentJob, ModelJob, PairJob, Reading, SavedJob};
 use crate::replicate_options::ReplicateOptions;
 use crate::resume_options::ResumeOptions;
 use crate::run_options::RunOptions;
@@ -70,6 +71,19 @@ pub enum Job {
         events: u64,
         /// A value for each parameter of the vertex that begins the run, in order.
         starts: List<i64>,
+    },
+    /// Whether two models mean the same, as far as many runs of each show it.
+    Compare {
+        /// The stop time of each run, in ticks.
+        until: u64,
+        /// The seed of the first run's random streams.
+        seed: u64,
+        /// The event budget of each run: the most steps that are made.
+        events: u64,
+        /// A value for each parameter of the vertex that begins the runs, in order.
+        starts: List<i64>,
+        /// How many runs of each model there are.
+        runs: u64,
     },
     /// The watched history of a run that was saved, from there on, as it happens.
     Resume {
@@ -146,6 +160,19 @@ impl Job {
                 seed,
                 events,
                 starts,
+            })),
+            Job::Compare {
+                until,
+                seed,
+                events,
+                starts,
+                runs,
+            } => Reading::Pair(PairJob::Compare(CompareOptions {
+                until,
+                seed,
+                events,
+                starts,
+                runs,
             })),
             Job::Resume {
                 until,

@@ -4,6 +4,7 @@
 mod argument_values;
 mod clap_matches;
 mod command_line;
+mod compare_options;
 mod job;
 mod limits_law;
 mod reading;
@@ -15,9 +16,10 @@ mod trial_options;
 mod words_error;
 
 pub use command_line::words;
+pub use compare_options::CompareOptions;
 pub use job::Job;
 pub use limits_law::jobs_keep_their_limits;
-pub use reading::{BareJob, DocumentJob, ModelJob, Reading, SavedJob};
+pub use reading::{BareJob, DocumentJob, ModelJob, PairJob, Reading, SavedJob};
 pub use replicate_options::ReplicateOptions;
 pub use resume_options::ResumeOptions;
 pub use run_options::RunOptions;

@@ -3,6 +3,7 @@
 ghost use Rattle.std.specs.Prelude.{◌≡◌};
 ghost use Rattle.command_words.specs.Readings.{limit_of};
 
+use crate::compare_options::CompareOptions;
 use crate::replicate_options::ReplicateOptions;
 use crate::resume_options::ResumeOptions;
 use crate::run_options::RunOptions;
@@ -17,6 +18,8 @@ pub enum Reading {
     Model(ModelJob),
     /// A document: two models and a certificate, one after the other.
     Document(DocumentJob),
+    /// The texts of two models, one after the other.
+    Pair(PairJob),
     /// A saved document: a model and what was saved of a run of it, one after the other.
     Saved(SavedJob),
     /// Nothing: the words say all.
@@ -57,6 +60,13 @@ pub enum DocumentJob {
     Certify,
 }
 
+/// What is asked of two models.
+#[derive(Drop)]
+pub enum PairJob {
+    /// Whether they mean the same.
+    Compare(CompareOptions),
+}
+
 /// What is asked of a saved document.
 #[derive(Drop)]
 pub enum SavedJob {
@@ -78,7 +88,7 @@ impl Reading {
     {
         match self {
             Reading::Model(_) => Some(TEXT_MAX),
-            Reading::Document(_) | Reading::Saved(_) => Some(DOCUMENT_MAX),
+            Reading::Document(_) | Reading::Pair(_) | Reading::Saved(_) => Some(DOCUMENT_MAX),
             Reading::Nothing(_) => None,
         }
     }

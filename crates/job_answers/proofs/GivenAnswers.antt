@@ -28,6 +28,8 @@ end_unrefused ends.Done e = cc
 end_unrefused ends.ModelFault e = cc
 end_unrefused ends.Budget e = cc
 end_unrefused ends.Rejected e = cc
+end_unrefused ends.Differs e = cc
+end_unrefused ends.Unknown e = cc
 
 -- an answer that is a function of what is read, and done
 pub done_answer : {M : Type 0} (MayBeRead : M → Type 0) (MayBeNone : List ℕ → Type 0) (out : M → List ℕ) → ((m : M) → MayBeNone (out m) ⊎ (0 < length (out m)))

@@ -2,6 +2,7 @@
 use Rattle.command_words.specs.declared.reading.BareJob.TheVariants as bare
 use Rattle.command_words.specs.declared.reading.DocumentJob.TheVariants as documents
 use Rattle.command_words.specs.declared.reading.ModelJob.TheVariants as models
+use Rattle.command_words.specs.declared.reading.PairJob.TheVariants as pairs
 use Rattle.command_words.specs.declared.reading.SavedJob.TheVariants as saved_jobs
 use Rattle.command_words.specs.declared.reading.Reading.{Reading}
 use Rattle.command_words.specs.declared.reading.Reading.TheVariants as readings
@@ -21,6 +22,7 @@ use Rattle.job_answers.proofs.commands.SaveLaws.{GoingIsLed, save_laws}
 use Rattle.job_answers.proofs.commands.ResumeLaws.{resume_laws}
 use Rattle.job_answers.proofs.commands.TrialLaws.{OneSummary, trial_laws}
 use Rattle.job_answers.proofs.commands.CertifyLaws.{certify_laws}
+use Rattle.job_answers.proofs.commands.CompareLaws.{compare_laws}
 
 pub keeps_laws : OneStrategy → StrategyEnds → BecomesOne Fused → BecomesOne IsNarrowed → OneSummary → GoingIsLed → (reading : Reading) → KeepsAnswerLaws reading
 keeps_laws only ends fuses narrows trials led (readings.Model models.Check) = check_laws
@@ -35,5 +37,6 @@ keeps_laws only ends fuses narrows trials led (readings.Model (models.Run option
 keeps_laws only ends fuses narrows trials led (readings.Model (models.Replicate options)) = replicate_laws options
 keeps_laws only ends fuses narrows trials led (readings.Model (models.Save options)) = save_laws led options
 keeps_laws only ends fuses narrows trials led (readings.Document documents.Certify) = certify_laws
+keeps_laws only ends fuses narrows trials led (readings.Pair (pairs.Compare options)) = compare_laws options
 keeps_laws only ends fuses narrows trials led (readings.Saved (saved_jobs.Resume options)) = resume_laws options
 keeps_laws only ends fuses narrows trials led (readings.Nothing (bare.Trial options)) = trial_laws trials options

@@ -10,6 +10,7 @@ mod FaultLaws
 mod FrontOutcome
 mod GoodRuns
 mod JobLaws
+mod PairOutcome
 mod PassedOn
 mod PiecesWritten
 mod SavedModels
@@ -18,3 +19,5 @@ mod Showing
 mod SnapshotKinds
 mod SnapshotShown
 mod ErrorComplaints
+mod TokensLeft
+mod TakenStarts

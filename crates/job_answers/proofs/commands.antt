@@ -1,5 +1,6 @@
 pub mod CertifyLaws
 pub mod CheckLaws
+pub mod CompareLaws
 pub mod ConflictsLaws
 pub mod DescribeLaws
 pub mod PrintLaws

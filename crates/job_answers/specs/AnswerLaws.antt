@@ -11,7 +11,7 @@ use Rattle.answer_delivery.specs.declared.answer.Answer.{Answer}
 use Rattle.answer_delivery.specs.declared.answer.Answer.TheVariants.{Given}
 use Rattle.answer_delivery.specs.declared.status.End.{End}
 use Rattle.answer_delivery.specs.declared.status.Status.TheVariants as statuses
-use Rattle.job_answers.specs.Answers.{AnswersModel, AnswersDocument, AnswersSaved, AnswersAlone, HasNothingToWrite}
+use Rattle.job_answers.specs.Answers.{AnswersModel, AnswersDocument, AnswersPair, AnswersSaved, AnswersAlone, HasNothingToWrite}
 use Rattle.answer_delivery.specs.Statuses.{status_of_answer}
 
 -- Of what may be read there is an answer, and it is the only one. What is given has bytes, unless it may have none, and an
@@ -25,6 +25,10 @@ pub record HasOneAnswer {M : Type 0} (MayBeRead : M → Type 0) (Gives : M → A
 -- the two models of a document, and the applications between them
 abbrev pub DocumentParts : Type 0
 DocumentParts = EventGraph × List RuleApplication × EventGraph
+
+-- the two models of a document of two texts
+abbrev pub PairParts : Type 0
+PairParts = EventGraph × EventGraph
 
 -- the model of a saved document, and the run that was saved
 abbrev pub SavedParts : Type 0
@@ -40,5 +44,6 @@ abbrev pub KeepsAnswerLaws : Reading → Type 0
 KeepsAnswerLaws (readings.Model job) = HasOneAnswer IsValid (AnswersModel job) (HasNothingToWrite (readings.Model job))
 KeepsAnswerLaws (readings.Document job) =
     HasOneAnswer {M = DocumentParts} (λ d. Unit {0}) (λ d. AnswersDocument job d.0 d.1 d.2) (HasNothingToWrite (readings.Document job))
+KeepsAnswerLaws (readings.Pair job) = HasOneAnswer {M = PairParts} (λ d. Unit {0}) (λ d. AnswersPair job d.0 d.1) (HasNothingToWrite (readings.Pair job))
 KeepsAnswerLaws (readings.Saved job) = HasOneAnswer {M = SavedParts} (λ d. Unit {0}) (λ d. AnswersSaved job d.0 d.1) (HasNothingToWrite (readings.Saved job))
 KeepsAnswerLaws (readings.Nothing job) = HasOneAnswer {M = Unit {0}} (λ u. MayBeAsked (readings.Nothing job)) (λ u. AnswersAlone job) (HasNothingToWrite (readings.Nothing job))

@@ -7,6 +7,8 @@ use Rattle.command_words.specs.declared.reading.DocumentJob.{DocumentJob}
 use Rattle.command_words.specs.declared.reading.DocumentJob.TheVariants as documents
 use Rattle.command_words.specs.declared.reading.ModelJob.{ModelJob}
 use Rattle.command_words.specs.declared.reading.ModelJob.TheVariants as models
+use Rattle.command_words.specs.declared.reading.PairJob.{PairJob}
+use Rattle.command_words.specs.declared.reading.PairJob.TheVariants as pairs
 use Rattle.command_words.specs.declared.reading.SavedJob.{SavedJob}
 use Rattle.command_words.specs.declared.reading.SavedJob.TheVariants as saved_jobs
 use Rattle.command_words.specs.declared.reading.Reading.{Reading}
@@ -29,6 +31,8 @@ use Rattle.use_analysis.specs.UsesText.{uses_text}
 use Rattle.answer_delivery.specs.AnswerForms.{done, IsDone, refused, too_long}
 use Rattle.answer_delivery.specs.Complaints.{IsComplaint, message_of, byte_line}
 use Rattle.job_answers.specs.DocumentComplaints.{IsDocumentComplaint}
+use Rattle.job_answers.specs.PairComplaints.{IsPairComplaint}
+use Rattle.job_answers.specs.PairReading.{ReadsPair}
 use Rattle.job_answers.specs.SavedComplaints.{IsSavedComplaint}
 use Rattle.job_answers.specs.SavedReading.{ReadsSaved}
 use Rattle.job_answers.specs.ReduceAnswer.{Reduces}
@@ -38,6 +42,7 @@ use Rattle.job_answers.specs.ReplicateAnswer.{replicate_answer}
 use Rattle.job_answers.specs.SaveAnswer.{save_answer}
 use Rattle.job_answers.specs.ResumeAnswer.{resume_answer, ResumedExceedsRoom}
 use Rattle.job_answers.specs.CertifyAnswer.{answer_of_verdict}
+use Rattle.job_answers.specs.CompareAnswer.{compare_answer}
 
 -- ---- what is answered for what was read, job by job
 
@@ -65,6 +70,10 @@ AnswersModel (models.Save options) g a = a ≡ save_answer g options
 -- `certify` says whether the certificate holds
 abbrev pub AnswersDocument : DocumentJob → EventGraph → List RuleApplication → EventGraph → Answer → Type 0
 AnswersDocument documents.Certify original applications reduced a = a ≡ answer_of_verdict (verdict original applications reduced)
+
+-- `compare` says whether two models differ, as far as it is known
+abbrev pub AnswersPair : PairJob → EventGraph → EventGraph → Answer → Type 0
+AnswersPair (pairs.Compare options) g h a = a ≡ compare_answer g h options
 
 -- `resume` writes the history of the saved run from there on
 abbrev pub AnswersSaved : SavedJob → EventGraph → SavedRun → Answer → Type 0
@@ -107,6 +116,8 @@ Responds (readings.Model job) text a = IsRefused (IsComplaint text) a ⊎ ((g : 
 Responds (readings.Document job) text a =
     IsRefused (IsDocumentComplaint text) a
     ⊎ ((g : EventGraph) × (applications : List RuleApplication) × (h : EventGraph) × ReadsDocument text g applications h × AnswersDocument job g applications h a)
+Responds (readings.Pair job) text a =
+    IsRefused (IsPairComplaint text) a ⊎ ((g : EventGraph) × (h : EventGraph) × ReadsPair text g h × AnswersPair job g h a)
 Responds (readings.Saved job) text a = IsRefused (IsSavedComplaint text) a ⊎ ((g : EventGraph) × (s : SavedRun) × ReadsSaved text g s × AnswersSaved job g s a)
 Responds (readings.Nothing job) text a = AnswersAlone job a
 
@@ -114,6 +125,7 @@ Responds (readings.Nothing job) text a = AnswersAlone job a
 abbrev pub MayStopShort : Reading → List ℕ → Type 0
 MayStopShort (readings.Model job) text = (g : EventGraph) × Reads text g × MayLackMemory job g
 MayStopShort (readings.Document job) text = ⊥
+MayStopShort (readings.Pair job) text = ⊥
 MayStopShort (readings.Saved job) text = (g : EventGraph) × (s : SavedRun) × ReadsSaved text g s × SavedMayLackMemory job g s
 MayStopShort (readings.Nothing job) text = ⊥
 

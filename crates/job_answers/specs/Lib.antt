@@ -1,6 +1,8 @@
 pub mod DocumentComplaints
 pub mod SavedReading
 pub mod SavedComplaints
+pub mod PairReading
+pub mod PairComplaints
 pub mod TextComplaints
 pub mod ReduceAnswer
 pub mod RewrittenAnswer
@@ -10,6 +12,7 @@ pub mod ReplicateAnswer
 pub mod SaveAnswer
 pub mod ResumeAnswer
 pub mod CertifyAnswer
+pub mod CompareAnswer
 pub mod Answers
 pub mod AnswerLaws
 pub mod SavedAndResumed

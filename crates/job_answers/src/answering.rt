@@ -1,18 +1,19 @@
 //! The answer to a text, on its way to the output: the text is read, the command answers, or the complaint is written.
 
 ghost use Rattle.std.specs.Prelude.{map};
-ghost use Rattle.command_words.specs.declared.reading.Reading.TheVariants.{Model as OfModel, Saved as OfSaved, Nothing as OfNothing};
+ghost use Rattle.command_words.specs.declared.reading.Reading.TheVariants.{Model as OfModel, Pair as OfPair, Saved as OfSaved, Nothing as OfNothing};
 ghost use Rattle.command_words.specs.KeptLimits.{KeepsLimits};
 ghost use Rattle.command_words.specs.Readings.{limit_of};
 ghost use Rattle.model_core.specs.Saved.SavedRun.{IsGood};
 ghost use Rattle.model_core.specs.Static.Reading.{IsValid};
 ghost use Rattle.model_core.specs.Code.Views.{graph_of, application_of};
-ghost use Rattle.job_answers.specs.Answers.{AnswersModel, AnswersDocument, AnswersAlone, AnswersSaved, MayLackMemory, SavedMayLackMemory, IsWithin, Responds, MayStopShort};
+ghost use Rattle.job_answers.specs.Answers.{AnswersModel, AnswersDocument, AnswersPair, AnswersAlone, AnswersSaved, MayLackMemory, SavedMayLackMemory, IsWithin, Responds, MayStopShort};
 ghost use Rattle.job_answers.specs.Inner.Refusals.{Complains};
 ghost use Rattle.answer_delivery.specs.Delivery.{DeliversSome};
 
 use crate::commands::certify::certify;
 use crate::commands::check::check;
+use crate::commands::compare::compare;
 use crate::commands::conflicts::conflicts;
 use crate::commands::describe_model::describe;
 use crate::commands::fuse::fuse;
@@ -27,10 +28,11 @@ use crate::commands::trial::trial;
 use crate::commands::uses::uses;
 use crate::document_reading::{Document, document_of};
 use crate::model_reading::model_of;
+use crate::pair_reading::{ModelPair, pair_of};
 use crate::reading_error::ReadingError;
 use crate::saved_reading::{SavedDocument, saved_document_of};
 use answer_delivery::{DeliveryOutcome, Failure, complaint_answer, deliver};
-use command_words::{BareJob, DocumentJob, ModelJob, Reading, SavedJob};
+use command_words::{BareJob, DocumentJob, ModelJob, PairJob, Reading, SavedJob};
 use model_core::Model;
 use sig_base::Sink;
 use std::alloc::Global;
@@ -79,6 +81,25 @@ fn answer_document<K: Sink>(
 {
     match job {
         DocumentJob::Certify => deliver(output, certify(alloc, document)),
+    }
+}
+
+/// Writes the answer of a command on two models.
+fn answer_pair<K: Sink>(
+    alloc: Global,
+    job: &PairJob,
+    pair: &ModelPair,
+    output: &mut K,
+) -> Result<DeliveryOutcome, Failure>
+    requires first_valid { IsValid (graph_of pair.now.first) }
+    requires second_valid { IsValid (graph_of pair.now.second) }
+    requires limits { KeepsLimits (OfPair job.now) }
+    ensures { DeliversSome K.seen
+        (AnswersPair job.now (graph_of pair.now.first) (graph_of pair.now.second))
+        ⊥ result output.old output.new }
+{
+    match job {
+        PairJob::Compare(options) => compare(alloc, pair, options, output),
     }
 }
 
@@ -153,6 +174,14 @@ pub fn answer_text<K: Sink>(
             Ok(document) => {
                 let said = answer_document(alloc, job, &document, output);
                 forget(document);
+                said
+            }
+            Err(error) => complain(alloc, error, output),
+        },
+        Reading::Pair(job) => match pair_of(alloc, text) {
+            Ok(pair) => {
+                let said = answer_pair(alloc, job, &pair, output);
+                forget(pair);
                 said
             }
             Err(error) => complain(alloc, error, output),

@@ -3,6 +3,7 @@
 
 pub(crate) mod certify;
 pub(crate) mod check;
+pub(crate) mod compare;
 pub(crate) mod conflicts;
 pub(crate) mod describe_model;
 pub(crate) mod fuse;

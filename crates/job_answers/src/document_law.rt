@@ -12,7 +12,9 @@ ghost use Rattle.answer_delivery.specs.declared.answer.Answer.{Answer};
 ghost use Rattle.answer_delivery.specs.declared.complaint.Complaint.{Complaint};
 ghost use Rattle.job_answers.specs.Answers.{AnswersSaved, Answers};
 ghost use Rattle.job_answers.specs.DocumentComplaints.{IsDocumentComplaint};
-ghost use Rattle.job_answers.specs.TextComplaints.{HasDocumentComplaint, HasSavedComplaint};
+ghost use Rattle.job_answers.specs.TextComplaints.{HasDocumentComplaint, HasPairComplaint, HasSavedComplaint};
+ghost use Rattle.job_answers.specs.PairComplaints.{IsPairComplaint};
+ghost use Rattle.job_answers.specs.PairReading.{ReadsPair};
 ghost use Rattle.job_answers.specs.SavedComplaints.{IsSavedComplaint};
 ghost use Rattle.job_answers.specs.SavedReading.{ReadsSaved};
 
@@ -32,6 +34,20 @@ pub fn documents_have_one_complaint()
         → HasDocumentComplaint text
         ⊎ ((g : EventGraph) × (applications : List RuleApplication) × (h : EventGraph)
         × ReadsDocument text g applications h) }
+{
+    accepted_or_one_fault();
+}
+
+/// A document of two texts within its limit has one complaint or reads as two models, and never both.
+pub fn pairs_have_one_complaint()
+    ensures one { (text : List ℕ) (c d : Complaint) (i j : ℕ) → IsPairComplaint text c i
+        → IsPairComplaint text d j → (c ≡ d) × (i ≡ j) }
+    ensures none { (text : List ℕ) (c : Complaint) (i : ℕ) (g h : EventGraph)
+        → IsPairComplaint text c i → ReadsPair text g h → ⊥ }
+    ensures one_reading { (text : List ℕ) (g h k l : EventGraph) → ReadsPair text g h
+        → ReadsPair text k l → (g ≡ k) × (h ≡ l) }
+    ensures some { (text : List ℕ) → length text ≤ DOCUMENT_MAX
+        → HasPairComplaint text ⊎ ((g : EventGraph) × (h : EventGraph) × ReadsPair text g h) }
 {
     accepted_or_one_fault();
 }

@@ -13,6 +13,7 @@ mod job_laws;
 mod last_text;
 mod model_reading;
 mod notes_dropped;
+mod pair_reading;
 mod reading_error;
 mod saved_reading;
 mod written_reading;
@@ -26,6 +27,7 @@ pub use commands::resume::good_snapshots_are_printed_again;
 pub use commands::save::saved_runs_are_resumed;
 pub use complaint_law::{readable_models_are_reduced, texts_have_one_complaint};
 pub use document_law::{
-    documents_have_one_complaint, read_runs_are_answered, saved_documents_have_one_complaint,
+    documents_have_one_complaint, pairs_have_one_complaint, read_runs_are_answered,
+    saved_documents_have_one_complaint,
 };
 pub use job_laws::answers_keep_their_laws;

@@ -90,6 +90,8 @@ module _ {S K E : Type 0} (source : S → Inlet) (sink : K → Outlet) (errors :
   ends_as_seen statuses.ModelFault h = given_as_seen ends.ModelFault h
   ends_as_seen statuses.Budget h = given_as_seen ends.Budget h
   ends_as_seen statuses.Rejected h = given_as_seen ends.Rejected h
+  ends_as_seen statuses.Differs h = given_as_seen ends.Differs h
+  ends_as_seen statuses.Unknown h = given_as_seen ends.Unknown h
   ends_as_seen statuses.BadStart h = refusal_as_seen refusals.BadStart h
   ends_as_seen statuses.Finished h = refusal_as_seen refusals.Finished h
   ends_as_seen statuses.TooLarge h = refusal_as_seen refusals.TooLarge h

@@ -32,6 +32,8 @@ given_has_bytes (readings.Model job) laws text end bytes (inl h) = let e = h.ref
 given_has_bytes (readings.Model job) laws text end bytes (inr h) = laws.has_bytes h.0 end bytes h.2
 given_has_bytes (readings.Document job) laws text end bytes (inl h) = let e = h.refuses in absurd cc
 given_has_bytes (readings.Document job) laws text end bytes (inr h) = laws.has_bytes (h.0, h.1, h.2) end bytes h.4
+given_has_bytes (readings.Pair job) laws text end bytes (inl h) = let e = h.refuses in absurd cc
+given_has_bytes (readings.Pair job) laws text end bytes (inr h) = laws.has_bytes (h.0, h.1) end bytes h.3
 given_has_bytes (readings.Saved job) laws text end bytes (inl h) = let e = h.refuses in absurd cc
 given_has_bytes (readings.Saved job) laws text end bytes (inr h) = laws.has_bytes (h.0, h.1) end bytes h.3
 given_has_bytes (readings.Nothing job) laws text end bytes h = laws.has_bytes tt end bytes h

@@ -147,6 +147,8 @@ module _ {S K E : Type 0} (source : S → Inlet) (sink : K → Outlet) (errors :
   answer_reported ends.ModelFault h = (h, refl)
   answer_reported ends.Budget h = (h, refl)
   answer_reported ends.Rejected h = (h, refl)
+  answer_reported ends.Differs h = (h, refl)
+  answer_reported ends.Unknown h = (h, refl)
 
   pub answer_ends : (end : End) (r : Result DeliveryOutcome Failure) (status : Status) → r ≡ Ok (said.Gave end) → status ≡ status_of_end end → AnswersWords source sink words r i j o p → Ends source sink errors words i j o p e e status
   answer_ends end r status is of_status h =
@@ -236,6 +238,8 @@ module _ {S K E : Type 0} (source : S → Inlet) (sink : K → Outlet) (errors :
       complete read wrote statuses.ModelFault h = inr (given_complete ends.ModelFault h.0)
       complete read wrote statuses.Budget h = inr (given_complete ends.Budget h.0)
       complete read wrote statuses.Rejected h = inr (given_complete ends.Rejected h.0)
+      complete read wrote statuses.Differs h = inr (given_complete ends.Differs h.0)
+      complete read wrote statuses.Unknown h = inr (given_complete ends.Unknown h.0)
       complete read wrote statuses.BadStart h = inr (refusal_complete refusals.BadStart h.0 h.1)
       complete read wrote statuses.Finished h = inr (refusal_complete refusals.Finished h.0 h.1)
       complete read wrote statuses.TooLarge h = inr (refusal_complete refusals.TooLarge h.0 h.1)
@@ -251,6 +255,8 @@ module _ {S K E : Type 0} (source : S → Inlet) (sink : K → Outlet) (errors :
       complete_unless_failed statuses.ModelFault h read wrote held = given_complete ends.ModelFault h.0
       complete_unless_failed statuses.Budget h read wrote held = given_complete ends.Budget h.0
       complete_unless_failed statuses.Rejected h read wrote held = given_complete ends.Rejected h.0
+      complete_unless_failed statuses.Differs h read wrote held = given_complete ends.Differs h.0
+      complete_unless_failed statuses.Unknown h read wrote held = given_complete ends.Unknown h.0
       complete_unless_failed statuses.BadStart h read wrote held = refusal_complete refusals.BadStart h.0 h.1
       complete_unless_failed statuses.Finished h read wrote held = refusal_complete refusals.Finished h.0 h.1
       complete_unless_failed statuses.TooLarge h read wrote held = refusal_complete refusals.TooLarge h.0 h.1

@@ -146,3 +146,5 @@ module _ {S K E : Type 0} (source : S → Inlet) (sink : K → Outlet) (errors :
     Ends statuses.BadStart = EndsWithRefusal refusals.BadStart
     Ends statuses.Finished = EndsWithRefusal refusals.Finished
     Ends statuses.TooLarge = EndsWithRefusal refusals.TooLarge
+    Ends statuses.Differs = EndsWithAnswer ends.Differs
+    Ends statuses.Unknown = EndsWithAnswer ends.Unknown

@@ -7,6 +7,7 @@ use Rattle.command_words.specs.declared.reading.Reading.{Reading}
 use Rattle.command_words.specs.declared.reading.Reading.TheVariants as readings
 use Rattle.command_words.specs.declared.reading.BareJob.TheVariants as bare
 use Rattle.command_words.specs.declared.reading.ModelJob.TheVariants as models
+use Rattle.command_words.specs.declared.reading.PairJob.TheVariants as pairs
 use Rattle.command_words.specs.declared.reading.SavedJob.TheVariants as saved_jobs
 use Rattle.command_words.specs.Jobs.{job_of}
 
@@ -33,6 +34,9 @@ of_replicate until events runs stride =
 
 abbrev pub of_save : ℕ → ℕ → ℕ → Reading
 of_save until seed events = readings.Model (models.Save (record { until = until; seed = seed; events = events; starts = [] }))
+
+abbrev pub of_compare : ℕ → ℕ → ℕ → ℕ → Reading
+of_compare until seed events runs = readings.Pair (pairs.Compare (record { until = until; seed = seed; events = events; starts = []; runs = runs }))
 
 abbrev pub of_resume : ℕ → ℕ → ℕ → Reading
 of_resume until events room = readings.Saved (saved_jobs.Resume (record { until = until; events = events; room = room }))

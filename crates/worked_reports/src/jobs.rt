@@ -132,6 +132,25 @@ pub fn replications_are_asked_for()
         (codes "replicate --until=1 --seed=2 --events=3 --runs=4 --vertices=1") ≡ None }
 {}
 
+/// `compare` needs how many runs of each model there are, and has no room and no stride.
+pub fn comparisons_are_asked_for()
+    ensures usual { asked (codes "compare --until=1 --seed=2 --events=3 --runs=4")
+        ≡ Some (jobs.Compare 1 2 3 [] 4) }
+    ensures starts { asked (codes "compare --until=1 --seed=2 --events=3 --runs=4 --start=-5,6")
+        ≡ Some (jobs.Compare 1 2 3 (neg_ℤ (pos 5) ∷ pos 6 ∷ []) 4) }
+    ensures no_until { asked (codes "compare --seed=2 --events=3 --runs=4") ≡ None }
+    ensures no_seed { asked (codes "compare --until=1 --events=3 --runs=4") ≡ None }
+    ensures no_events { asked (codes "compare --until=1 --seed=2 --runs=4") ≡ None }
+    ensures no_runs { asked (codes "compare --until=1 --seed=2 --events=3") ≡ None }
+    ensures runs_above { asked (codes "compare --until=1 --seed=2 --events=3 --runs=65537")
+        ≡ None }
+    ensures runs_below { asked (codes "compare --until=1 --seed=2 --events=3 --runs=0") ≡ None }
+    ensures no_room { asked (codes "compare --until=1 --seed=2 --events=3 --runs=4 --room=1")
+        ≡ None }
+    ensures no_stride { asked (codes "compare --until=1 --seed=2 --events=3 --runs=4 --stride=1")
+        ≡ None }
+{}
+
 /// `replicate` may have a stride, which is 1 else: from 1 to 2^64 - 1, and given once.
 pub fn strides_are_asked_for()
     ensures usual { asked (codes "replicate --until=1 --seed=2 --events=3 --runs=4")

@@ -23,6 +23,8 @@ pub fn statuses_have_numbers()
     ensures bad_start { exit_status_of statuses.BadStart ≡ 9 }
     ensures finished { exit_status_of statuses.Finished ≡ 10 }
     ensures too_large { exit_status_of statuses.TooLarge ≡ 11 }
+    ensures differs { exit_status_of statuses.Differs ≡ 12 }
+    ensures unknown { exit_status_of statuses.Unknown ≡ 13 }
 {}
 
 /// Each end, refusal and failure has a status of its own.
@@ -31,6 +33,8 @@ pub fn ends_have_statuses()
     ensures model_fault { status_of_end ends.ModelFault ≡ statuses.ModelFault }
     ensures budget { status_of_end ends.Budget ≡ statuses.Budget }
     ensures rejected { status_of_end ends.Rejected ≡ statuses.Rejected }
+    ensures differs { status_of_end ends.Differs ≡ statuses.Differs }
+    ensures unknown { status_of_end ends.Unknown ≡ statuses.Unknown }
     ensures refused { status_of_refusal refusals.Refused ≡ statuses.Refused }
     ensures bad_start { status_of_refusal refusals.BadStart ≡ statuses.BadStart }
     ensures finished { status_of_refusal refusals.Finished ≡ statuses.Finished }

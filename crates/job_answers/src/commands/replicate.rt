@@ -23,7 +23,7 @@ use std::alloc::Global;
 use tally_report::{RunTally, Totals, header_csv, run_csv, tally_run, totals_csv};
 
 /// The seed of the run of a number, from 1.
-fn seed_of_run(seed: u64, stride: u64, number: u64) -> u64
+pub(crate) fn seed_of_run(seed: u64, stride: u64, number: u64) -> u64
     requires { 0 < number }
     ensures { result ≡ seed_of_run seed stride number }
 {

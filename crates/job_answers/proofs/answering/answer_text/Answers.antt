@@ -3,21 +3,24 @@ use Rattle.std.proofs.Common.{◌≡◌, inl, inr, ℕ, List, map, Result, Err, 
 use Rattle.sig_base.specs.Sink.{Outlet}
 use Rattle.command_words.specs.declared.reading.DocumentJob.{DocumentJob}
 use Rattle.command_words.specs.declared.reading.ModelJob.{ModelJob}
+use Rattle.command_words.specs.declared.reading.PairJob.{PairJob}
 use Rattle.command_words.specs.declared.reading.Reading.{Reading}
-use Rattle.command_words.specs.declared.reading.Reading.TheVariants.{Model, Document, Saved}
+use Rattle.command_words.specs.declared.reading.Reading.TheVariants.{Model, Document, Pair, Saved}
 use Rattle.command_words.specs.declared.reading.SavedJob.{SavedJob}
 use Rattle.answer_delivery.specs.declared.complaint.Complaint.{Complaint}
 use Rattle.answer_delivery.specs.Complaints.{IsComplaint}
 use Rattle.job_answers.specs.declared.reading_error.ReadingError.{ReadingError}
 use Rattle.job_answers.specs.declared.reading_error.ReadingError.TheVariants as readings
-use Rattle.job_answers.specs.Answers.{AnswersModel, AnswersDocument, AnswersSaved, MayLackMemory, SavedMayLackMemory, IsRefused, Responds, MayStopShort}
+use Rattle.job_answers.specs.Answers.{AnswersModel, AnswersDocument, AnswersPair, AnswersSaved, MayLackMemory, SavedMayLackMemory, IsRefused, Responds, MayStopShort}
 use Rattle.job_answers.specs.DocumentComplaints.{IsDocumentComplaint}
+use Rattle.job_answers.specs.PairComplaints.{IsPairComplaint}
+use Rattle.job_answers.specs.PairReading.{ReadsPair}
 use Rattle.job_answers.specs.SavedComplaints.{IsSavedComplaint}
 use Rattle.job_answers.specs.SavedReading.{ReadsSaved}
 use Rattle.job_answers.specs.Inner.Refusals.{Complains}
 use Rattle.job_answers.proofs.ModelTerms.{EventGraph, graph_of, application_of, Reads, ReadsDocument, RuleApplication, SavedRun}
 use Rattle.job_answers.proofs.AnswerTerms.{Answer, Failure, DeliveryOutcome, DeliversSome}
-use Rattle.job_answers.proofs.SavedModels.{saved_model_valid}
+use Rattle.job_answers.proofs.SavedModels.{saved_model_valid, pair_models_valid}
 use Rattle.job_answers.proofs.answering.answer_text.Goals as goal
 
 module _ {K : Type 0} (seen : K → Outlet) (text : List ℕ) (r : Result DeliveryOutcome Failure) (o p : K) where
@@ -43,6 +46,9 @@ module _ {K : Type 0} (seen : K → Outlet) (text : List ℕ) (r : Result Delive
   of_document job g applications h reads =
       replies (Document job) (AnswersDocument job g applications h) ⊥
       (λ a is. inr (g, applications, h, reads, is)) (λ never. absurd never)
+
+  of_pair : (job : PairJob) (g h : EventGraph) → ReadsPair text g h → DeliversSome seen (AnswersPair job g h) ⊥ r o p → DeliversReply (Pair job)
+  of_pair job g h reads = replies (Pair job) (AnswersPair job g h) ⊥ (λ a is. inr (g, h, reads, is)) (λ never. absurd never)
 
   of_saved : (job : SavedJob) (g : EventGraph) (s : SavedRun) → ReadsSaved text g s → DeliversSome seen (AnswersSaved job g s) (SavedMayLackMemory job g s) r o p → DeliversReply (Saved job)
   of_saved job g s reads =
@@ -89,6 +95,24 @@ returns-in-Err-document_of g c =
     of_reading g.K.Sink.seen c.args.text.now c.complain-in-Err-document_of.result c.args.output.now c.complain-in-Err-document_of.new.output c.args.reading.now (Document c.in-Document.job) c.in-Document.is
     (complained g.K.Sink.seen c.args.text.now c.complain-in-Err-document_of.result c.args.output.now c.complain-in-Err-document_of.new.output (Document c.in-Document.job) (IsDocumentComplaint c.args.text.now) (λ a refusal. inl refusal) c.in-Err-document_of.error
     (λ what at is. c.in-Err-document_of.ensures.complaint what at (ap (λ x. Err x) is)) c.complain-in-Err-document_of.ensures)
+
+pub answer_pair-said-requires-clause-first_valid : goal.answer_pair-said-requires-clause-first_valid
+answer_pair-said-requires-clause-first_valid g c = (pair_models_valid c.args.text.now (graph_of c.in-Ok-pair_of.pair.first) (graph_of c.in-Ok-pair_of.pair.second) c.in-Ok-pair_of.ensures.ok).0
+
+pub answer_pair-said-requires-clause-second_valid : goal.answer_pair-said-requires-clause-second_valid
+answer_pair-said-requires-clause-second_valid g c = (pair_models_valid c.args.text.now (graph_of c.in-Ok-pair_of.pair.first) (graph_of c.in-Ok-pair_of.pair.second) c.in-Ok-pair_of.ensures.ok).1
+
+pub returns-in-Ok-pair_of : goal.returns-in-Ok-pair_of
+returns-in-Ok-pair_of g c =
+    let d = c.in-Ok-pair_of.pair in
+    of_reading g.K.Sink.seen c.args.text.now c.answer_pair-said.result c.args.output.now c.answer_pair-said.new.output c.args.reading.now (Pair c.in-Pair.job) c.in-Pair.is
+    (of_pair g.K.Sink.seen c.args.text.now c.answer_pair-said.result c.args.output.now c.answer_pair-said.new.output c.in-Pair.job (graph_of d.first) (graph_of d.second) c.in-Ok-pair_of.ensures.ok c.answer_pair-said.ensures)
+
+pub returns-in-Err-pair_of : goal.returns-in-Err-pair_of
+returns-in-Err-pair_of g c =
+    of_reading g.K.Sink.seen c.args.text.now c.complain-in-Err-pair_of.result c.args.output.now c.complain-in-Err-pair_of.new.output c.args.reading.now (Pair c.in-Pair.job) c.in-Pair.is
+    (complained g.K.Sink.seen c.args.text.now c.complain-in-Err-pair_of.result c.args.output.now c.complain-in-Err-pair_of.new.output (Pair c.in-Pair.job) (IsPairComplaint c.args.text.now) (λ a refusal. inl refusal) c.in-Err-pair_of.error
+    (λ what at is. c.in-Err-pair_of.ensures.complaint what at (ap (λ x. Err x) is)) c.complain-in-Err-pair_of.ensures)
 
 pub returns-in-Ok-saved_document_of : goal.returns-in-Ok-saved_document_of
 returns-in-Ok-saved_document_of g c =

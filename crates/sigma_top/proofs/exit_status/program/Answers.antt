@@ -25,6 +25,8 @@ is_done statuses.Rejected e = cc
 is_done statuses.BadStart e = cc
 is_done statuses.Finished e = cc
 is_done statuses.TooLarge e = cc
+is_done statuses.Differs e = cc
+is_done statuses.Unknown e = cc
 
 -- what is promised at a status is promised at its exit status
 at_exit : (exit : ℕ) (status : Status) (words : List (List ℕ)) (input : Inlet) (before after : Outlet) → exit ≡ exit_status_of status
