@@ -43,7 +43,7 @@ stores_in_two g ((p, x) ∷ zs) s = by (kept (variable_at g p.variable) x) (λ y
   by (Err f) later = refl
   by (Ok y) later = later y ∙ after y (run.each (kept_at g) zs)
 
-module _ (v : Valuation) (ground : Ground) (meets : Meets ground v) where
+module _ (v : Valuation) (base : Ground) (meets : Meets base v) where
   -- ---- stores that are taken away aren't read elsewhere
 
   truth_true : (b : Bool) → truth b ≡ pos 1 → b ≡ true
@@ -57,16 +57,16 @@ module _ (v : Valuation) (ground : Ground) (meets : Meets ground v) where
   abbrev LeftReads : ℕ → ℤ → List Stored → List Stored → Type 0
   LeftReads i a ss left = (x : ℤ) → int_eq x a ≡ false → stored_value v i left x ≡ stored_value v i ss x
 
-  left-reads : (k : Known) → Holds v k → (i : ℕ) (a : CaseTree) (ss : List Stored) → Gives (stores_left ground k a ss) (LeftReads i (tree_value v a) ss)
+  left-reads : (k : Known) → Holds v k → (i : ℕ) (a : CaseTree) (ss : List Stored) → Gives (stores_left base k a ss) (LeftReads i (tree_value v a) ss)
   unfolding stores_left stored_value
   left-reads k h i a [] = gives_some _ _ (λ x apart. refl)
   left-reads k h i a (s ∷ older) =
       let Q : List Stored → Type 0 = LeftReads i (tree_value v a) (s ∷ older) in
-      then_gives (Has v (truth (int_eq (tree_value v a) (tree_value v s.index)))) Q (equal_tree ground k a s.index) _ (equal-value v ground meets k h a s.index) (λ c is.
-      then_gives (LeftReads i (tree_value v a) older) Q (stores_left ground k a older) _ (left-reads k h i a older) (λ left reads.
+      then_gives (Has v (truth (int_eq (tree_value v a) (tree_value v s.index)))) Q (equal_tree base k a s.index) _ (equal-value v base meets k h a s.index) (λ c is.
+      then_gives (LeftReads i (tree_value v a) older) Q (stores_left base k a older) _ (left-reads k h i a older) (λ left reads.
       gives_some Q _ (holds_cond Q (same_tree c always) left (s ∷ left)
       (λ one x apart.
-      let same : int_eq (tree_value v a) (tree_value v s.index) ≡ true = truth_true _ (sym is ∙ ap (tree_value v) (true-same_tree c always one) ∙ constant-value v ground meets (pos 1)) in
+      let same : int_eq (tree_value v a) (tree_value v s.index) ≡ true = truth_true _ (sym is ∙ ap (tree_value v) (true-same_tree c always one) ∙ constant-value v base meets (pos 1)) in
       reads x apart ∙ sym (ap (λ b. cond b (tree_value v s.value) (stored_value v i older x)) (same_index x (tree_value v a) (tree_value v s.index) apart same)))
       (λ other x apart. ap (λ y. cond (int_eq x (tree_value v s.index)) (tree_value v s.value) y) (reads x apart)))))
 
@@ -128,22 +128,22 @@ module _ (v : Valuation) (ground : Ground) (meets : Meets ground v) where
                 ∙ reads (pos j) apart ∙ agrees.cells p.variable j below ∙ sym (other_index g s laid p y declared j e)
 
       -- a store of one tree
-      stored-by : (k : Known) → Holds v k → (q : PlaceTree) → p.variable ≡ q.variable → (index : Option CaseTree) → IndexIs v g p index → Gives (stored_at ground k p.variable index t so_far) (Agrees v g (with_cell s p y) clk)
+      stored-by : (k : Known) → Holds v k → (q : PlaceTree) → p.variable ≡ q.variable → (index : Option CaseTree) → IndexIs v g p index → Gives (stored_at base k p.variable index t so_far) (Agrees v g (with_cell s p y) clk)
       stored-by k h q same None is = gives_some _ _ (scalar_stored is.0 is.1)
       stored-by k h q same (Some a) is =
-          then_gives (LeftReads p.variable (tree_value v a) (so_far.stores p.variable)) (Agrees v g (with_cell s p y) clk) (stores_left ground k a (so_far.stores p.variable)) _ (left-reads k h p.variable a (so_far.stores p.variable))
+          then_gives (LeftReads p.variable (tree_value v a) (so_far.stores p.variable)) (Agrees v g (with_cell s p y) clk) (stores_left base k a (so_far.stores p.variable)) _ (left-reads k h p.variable a (so_far.stores p.variable))
           (λ left reads. gives_some (Agrees v g (with_cell s p y) clk) _ (cell_stored k h a is.0 is.1 left reads))
 
-      pub store-agrees : (k : Known) → Holds v k → (q : PlaceTree) → PlaceIs v g p q → Gives (stored ground k q t so_far) (Agrees v g (with_cell s p y) clk)
+      pub store-agrees : (k : Known) → Holds v k → (q : PlaceTree) → PlaceIs v g p q → Gives (stored base k q t so_far) (Agrees v g (with_cell s p y) clk)
       unfolding stored
       store-agrees k h q is =
-          subst (λ i. Gives (stored_at ground k i q.index t so_far) (Agrees v g (with_cell s p y) clk)) is.variable (stored-by k h q is.variable q.index is.index)
+          subst (λ i. Gives (stored_at base k i q.index t so_far) (Agrees v g (with_cell s p y) clk)) is.variable (stored-by k h q is.variable q.index is.index)
 
     -- ---- several stores
 
     pub stores-agree : (k : Known) → Holds v k → (ps : List Place) (qs : List PlaceTree) → PlacesAre v g ps qs → (xs : List ℤ) (ts : List CaseTree) → length ts ≡ length (zip ps xs)
         → (s : State) → IsLaidOut g s → (so_far : SoFar) → Agrees v g s clk so_far
-        → Gives (all_stored ground k qs ts so_far) (Agrees v g (put_all (zip ps xs) (map (tree_value v) ts) s) clk)
+        → Gives (all_stored base k qs ts so_far) (Agrees v g (put_all (zip ps xs) (map (tree_value v) ts) s) clk)
     unfolding all_stored
     stores-agree k h [] [] are xs ts long s laid so_far agrees = gives_some _ _ agrees
     stores-agree k h [] (q ∷ qs) are xs ts long s laid so_far agrees = absurd are
@@ -153,6 +153,6 @@ module _ (v : Valuation) (ground : Ground) (meets : Meets ground v) where
     stores-agree k h (p ∷ ps) (q ∷ qs) are (x ∷ xs) [] long s laid so_far agrees = absurd (omega (arith, long))
     stores-agree k h (p ∷ ps) (q ∷ qs) (is, are) (x ∷ xs) (t ∷ ts) long s laid so_far agrees =
         let y = tree_value v t in
-        then_gives (Agrees v g (with_cell s p y) clk) (Agrees v g (put_all (zip ps xs) (map (tree_value v) ts) (with_cell s p y)) clk) (stored ground k q t so_far) _
+        then_gives (Agrees v g (with_cell s p y) clk) (Agrees v g (put_all (zip ps xs) (map (tree_value v) ts) (with_cell s p y)) clk) (stored base k q t so_far) _
         (store-agrees s laid so_far agrees p t y refl is.declared k h q is)
         (λ later agrees_later. stores-agree k h ps qs are xs ts (omega (arith, long)) (with_cell s p y) (still_laid_out g s laid p y is.declared) later agrees_later)

@@ -10,7 +10,7 @@ use Rattle.event_laws.specs.Making.{WordTaken, choice_ends, word_ends, with_word
 use Rattle.event_laws.specs.WordsAre.{WordsAre}
 use Rattle.event_laws.proofs.CellsWritten.{same_number}
 
-module _ (v : Valuation) (g : EventGraph) (ground : Ground) (meets : Meets (with_words g ground []) v) (seed : ℕ) (taken : List ℕ) where
+module _ (v : Valuation) (g : EventGraph) (base : Ground) (meets : Meets (with_words g base []) v) (seed : ℕ) (taken : List ℕ) where
   words-between : (words : List WordTaken) → WordsAre v g seed taken words → (n : ℕ) → Within (word_ends g words n) (v.word n)
   words-between [] are n = meets.word n
   words-between (w ∷ older) (is, are) n =
@@ -18,7 +18,7 @@ module _ (v : Valuation) (g : EventGraph) (ground : Ground) (meets : Meets (with
       (λ e. subst (λ k. Within (choice_ends g w.choice) (v.word k)) (sym (same_number n (length older) e)) is.between)
       (λ e. words-between older are n)
 
-  pub words-meet : (words : List WordTaken) → WordsAre v g seed taken words → Meets (with_words g ground words) v
+  pub words-meet : (words : List WordTaken) → WordsAre v g seed taken words → Meets (with_words g base words) v
   words-meet words are = record {
     variable = meets.variable;
     received = meets.received;

@@ -32,21 +32,21 @@ pub record PlacesMade : Type 0 where
 
 -- ---- one value
 
-module _ (ground : Ground) where
+module _ (base : Ground) where
   -- no less than lo, and of that no more than hi
   abbrev pub clipped : ℤ → ℤ → CaseTree → Noted → Option Valued
   clipped lo hi t n = do
-    low ← at_most_tree ground n.known t lo
-    u ← choose ground n.known low (number_tree lo) t
-    fits ← at_most_tree ground n.known u hi
-    w ← choose ground n.known fits u (number_tree hi)
+    low ← at_most_tree base n.known t lo
+    u ← choose base n.known low (number_tree lo) t
+    fits ← at_most_tree base n.known u hi
+    w ← choose base n.known fits u (number_tree hi)
     Some (record { tree = w; noted = n })
 
   abbrev pub range_checked : ℤ → ℤ → CaseTree → Noted → Option Valued
   range_checked lo hi t n = do
-    c ← between_tree ground n.known t lo hi
-    m ← note ground faults.RangeOutside always c n
-    r ← renewed ground m.known t
+    c ← between_tree base n.known t lo hi
+    m ← note base faults.RangeOutside always c n
+    r ← renewed base m.known t
     Some (record { tree = r; noted = m })
 
   unfoldable pub kept_tree : Variable → CaseTree → Noted → Option Valued
@@ -58,7 +58,7 @@ module _ (ground : Ground) where
   unfoldable pub stores_left : Known → CaseTree → List Stored → Option (List Stored)
   stores_left k a [] = Some []
   stores_left k a (s ∷ older) = do
-    c ← equal_tree ground k a s.index
+    c ← equal_tree base k a s.index
     left ← stores_left k a older
     Some (cond (same_tree c always) left (s ∷ left))
 
@@ -82,12 +82,12 @@ module _ (ground : Ground) where
 -- ---- several, under one model
 
 module _ (g : EventGraph) where
-  module _ (ground : Ground) where
+  module _ (base : Ground) where
     -- the trees of expressions, from left to right
     unfoldable pub all_valued : SoFar → CaseTree → List Expression → Noted → Option TreesMade
     all_valued so_far guard [] n = Some (record { trees = []; noted = n })
     all_valued so_far guard (e ∷ es) n = do
-      w ← valued ground g so_far e guard n
+      w ← valued base g so_far e guard n
       ws ← all_valued so_far guard es w.noted
       Some (record { trees = w.tree ∷ ws.trees; noted = ws.noted })
 
@@ -95,9 +95,9 @@ module _ (g : EventGraph) where
     abbrev pub placed_at : SoFar → ℕ → Option Expression → Noted → Option PlaceMade
     placed_at so_far v None n = Some (record { place = record { variable = v; index = None }; noted = n })
     placed_at so_far v (Some e) n = do
-      a ← valued ground g so_far e always n
-      c ← between_tree ground a.noted.known a.tree (pos 0) (pos (variable_at g v).size -ℤ pos 1)
-      m ← note ground faults.IndexOutside always c a.noted
+      a ← valued base g so_far e always n
+      c ← between_tree base a.noted.known a.tree (pos 0) (pos (variable_at g v).size -ℤ pos 1)
+      m ← note base faults.IndexOutside always c a.noted
       Some (record { place = record { variable = v; index = Some a.tree }; noted = m })
 
     unfoldable pub placed : SoFar → Location → Noted → Option PlaceMade
@@ -115,7 +115,7 @@ module _ (g : EventGraph) where
     all_kept [] ts n = Some (record { trees = []; noted = n })
     all_kept (p ∷ ps) [] n = Some (record { trees = []; noted = n })
     all_kept (p ∷ ps) (t ∷ ts) n = do
-      w ← kept_tree ground (variable_at g p.variable) t n
+      w ← kept_tree base (variable_at g p.variable) t n
       ws ← all_kept ps ts w.noted
       Some (record { trees = w.tree ∷ ws.trees; noted = ws.noted })
 
@@ -125,23 +125,23 @@ module _ (g : EventGraph) where
       values ← all_valued m.values always rights m.noted
       places ← all_placed m.values targets values.noted
       kept ← all_kept places.places values.trees places.noted
-      later ← all_stored ground kept.noted.known places.places kept.trees m.values
+      later ← all_stored base kept.noted.known places.places kept.trees m.values
       Some (record { values = later; noted = kept.noted; words = m.words })
 
   -- ---- changes
 
-  module _ (ground : Ground) where
+  module _ (base : Ground) where
     -- the index is made before the word is taken
     abbrev pub draw_made : Location → WordTaken → Making → Option Making
     draw_made target w m = do
-      p ← placed (with_words g ground m.words) m.values target m.noted
-      t ← read_tree (with_words g ground (w ∷ m.words)) p.noted.known (WordAtom (length m.words))
-      kept ← kept_tree (with_words g ground (w ∷ m.words)) (variable_at g p.place.variable) t p.noted
-      later ← stored (with_words g ground (w ∷ m.words)) kept.noted.known p.place kept.tree m.values
+      p ← placed (with_words g base m.words) m.values target m.noted
+      t ← read_tree (with_words g base (w ∷ m.words)) p.noted.known (WordAtom (length m.words))
+      kept ← kept_tree (with_words g base (w ∷ m.words)) (variable_at g p.place.variable) t p.noted
+      later ← stored (with_words g base (w ∷ m.words)) kept.noted.known p.place kept.tree m.values
       Some (record { values = later; noted = kept.noted; words = w ∷ m.words })
 
     unfoldable pub change_made : StateChange → Making → Option Making
-    change_made (Set targets rights) m = set_made (with_words g ground m.words) targets rights m
+    change_made (Set targets rights) m = set_made (with_words g base m.words) targets rights m
     change_made (Draw target stream choice) m = draw_made target (record { stream = stream; guard = always; choice = choice }) m
 
     unfoldable pub changes_made : List StateChange → Making → Option Making

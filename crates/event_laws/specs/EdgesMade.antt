@@ -32,7 +32,7 @@ pub record EdgesMade : Type 0 where
   pub noted : Noted
   pub words : List WordTaken
 
-module _ (g : EventGraph) (ground : Ground) (so_far : SoFar) where
+module _ (g : EventGraph) (base : Ground) (so_far : SoFar) where
   -- a delay isn't below 0
   abbrev pub delay_checked : Ground → CaseTree → CaseTree → Noted → List WordTaken → Option DelayMade
   delay_checked now guard t n words = do
@@ -43,16 +43,16 @@ module _ (g : EventGraph) (ground : Ground) (so_far : SoFar) where
 
   unfoldable pub delay_made : CaseTree → Delay → Noted → List WordTaken → Option DelayMade
   delay_made guard (Fixed e) n words = do
-    w ← valued (with_words g ground words) g so_far e guard n
-    delay_checked (with_words g ground words) guard w.tree w.noted words
+    w ← valued (with_words g base words) g so_far e guard n
+    delay_checked (with_words g base words) guard w.tree w.noted words
   delay_made guard (Drawn stream choice) n words = do
-    t ← read_tree (with_words g ground (record { stream = stream; guard = guard; choice = choice } ∷ words)) n.known (WordAtom (length words))
-    delay_checked (with_words g ground (record { stream = stream; guard = guard; choice = choice } ∷ words)) guard t n (record { stream = stream; guard = guard; choice = choice } ∷ words)
+    t ← read_tree (with_words g base (record { stream = stream; guard = guard; choice = choice } ∷ words)) n.known (WordAtom (length words))
+    delay_checked (with_words g base (record { stream = stream; guard = guard; choice = choice } ∷ words)) guard t n (record { stream = stream; guard = guard; choice = choice } ∷ words)
 
   -- the one edge that is made, with these values
   abbrev pub edge_with : FormNow → CaseTree → EventEdge → DelayMade → Option EdgesMade
   edge_with form guard e d = do
-    ws ← all_valued g (with_words g ground d.words) so_far guard e.values d.noted
+    ws ← all_valued g (with_words g base d.words) so_far guard e.values d.noted
     Some (record { edges = record { form = form; target = e.target; condition = guard; delay = d.tree; values = ws.trees } ∷ []; noted = ws.noted; words = d.words })
 
   abbrev pub edge_bare : FormNow → CaseTree → EventEdge → DelayMade → Option EdgesMade
@@ -75,7 +75,7 @@ module _ (g : EventGraph) (ground : Ground) (so_far : SoFar) where
   -- an edge whose condition is 0 is left out
   unfoldable pub edge_made : EventEdge → Noted → List WordTaken → Option EdgesMade
   edge_made e n words = do
-    c ← valued (with_words g ground words) g so_far e.condition always n
+    c ← valued (with_words g base words) g so_far e.condition always n
     cond (is_zero_tree c.tree) (Some (record { edges = []; noted = c.noted; words = words })) (edge_of_kind c.tree e e.kind c.noted words)
 
   unfoldable pub edges_made : List EventEdge → Noted → List WordTaken → Option EdgesMade

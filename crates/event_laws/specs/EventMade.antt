@@ -29,9 +29,9 @@ pub record EventMade : Type 0 where
 
 -- the changes, and then the edges, whose trees are about the state after the changes
 abbrev pub event_made : EventGraph → Ground → EventVertex → Making → Option EventMade
-event_made g ground vertex m = do
-  n ← changes_made g ground vertex.changes m
-  w ← edges_made g ground n.values vertex.edges n.noted n.words
+event_made g base vertex m = do
+  n ← changes_made g base vertex.changes m
+  w ← edges_made g base n.values vertex.edges n.noted n.words
   Some (record { values = n.values; noted = w.noted; words = w.words; edges = w.edges })
 
 -- what an event does once its vertex has received its values

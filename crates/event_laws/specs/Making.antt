@@ -36,4 +36,4 @@ word_ends g [] n = record { lo = lowest; hi = highest }
 word_ends g (w ∷ older) n = cond (n == length older) (choice_ends g w.choice) (word_ends g older n)
 
 abbrev pub with_words : EventGraph → Ground → List WordTaken → Ground
-with_words g ground words = record ground { word = word_ends g words }
+with_words g base words = record base { word = word_ends g words }

@@ -20,16 +20,16 @@ ghost use Rattle.event_laws.specs.Follows.{Follows, FollowsResult};
 /// From a state in range: if the changes of an event go on, all checks pass and the trees have the values of the state after them;
 /// if one of them faults, its fault is the kind of the first check that fails. A check that failed before stays the first.
 pub fn trees_of_changes_follow_a_run()
-    ensures follows { (v : Valuation) (g : EventGraph) (clk : ℕ) (ground : Ground) (seed : ℕ) (taken : List ℕ)
-        → Meets (with_words g ground []) v
+    ensures follows { (v : Valuation) (g : EventGraph) (clk : ℕ) (base : Ground) (seed : ℕ) (taken : List ℕ)
+        → Meets (with_words g base []) v
         → (changes : List StateChange) → AllByRecursion (AlwaysFits g clk) changes
         → (d : ChangeState) → IsTrue (in_range g d.state)
         → (m n : Making) → Follows v g clk taken d m
-        → changes_made g ground changes m ≡ Some n → WordsAre v g seed taken n.words
+        → changes_made g base changes m ≡ Some n → WordsAre v g seed taken n.words
         → FollowsResult v g clk taken (in_turn (make_change g seed clk) changes d) n }
-    ensures failed { (v : Valuation) (g : EventGraph) (ground : Ground) (seed : ℕ) (taken : List ℕ)
-        → Meets (with_words g ground []) v
+    ensures failed { (v : Valuation) (g : EventGraph) (base : Ground) (seed : ℕ) (taken : List ℕ)
+        → Meets (with_words g base []) v
         → (f : FaultKind) (changes : List StateChange) (m n : Making)
-        → changes_made g ground changes m ≡ Some n → WordsAre v g seed taken n.words
+        → changes_made g base changes m ≡ Some n → WordsAre v g seed taken n.words
         → FailedIn v f m.noted → FailedIn v f n.noted }
 {}

@@ -22,12 +22,12 @@ use pair_laws::effects_of_edges;
 pub fn trees_of_events_follow_a_run()
     ensures occurs { (g : EventGraph) (seed : ℕ) (vertex : EventVertex) (n : EntryAndRest) (s : State) (taken : List ℕ)
         → occur g seed vertex n s taken ≡ occur_in_parts g seed vertex n s taken }
-    ensures follows { (v : Valuation) (g : EventGraph) (clk : ℕ) (ground : Ground) (seed : ℕ) (taken : List ℕ)
-        → Meets (with_words g ground []) v
+    ensures follows { (v : Valuation) (g : EventGraph) (clk : ℕ) (base : Ground) (seed : ℕ) (taken : List ℕ)
+        → Meets (with_words g base []) v
         → (vertex : EventVertex) → VertexFits g clk vertex
         → (received : State) → IsTrue (in_range g received)
         → (m : Making) → Follows v g clk taken (record { state = received; taken = taken }) m
-        → (e : EventMade) → event_made g ground vertex m ≡ Some e → WordsAre v g seed taken e.words
+        → (e : EventMade) → event_made g base vertex m ≡ Some e → WordsAre v g seed taken e.words
         → FollowsDone v g clk taken (done_after_receiving g seed vertex clk received taken) e }
 {
     effects_of_edges();

@@ -73,10 +73,10 @@ module _ (g : EventGraph) (s : State) (inside : IsTrue (in_range g s)) (begun : 
     unfolding stored_value atom_value
     begin-agrees so_far begins =
         let v = valuation_of g s clk received word in
-        let ground = ground_of g of_received of_word before terms_before sum_before in
+        let base = ground_of g of_received of_word before terms_before sum_before in
         record {
           clock = refl;
-          scalars = λ i alone. (read_tree-value v ground state-meets [] (nothing_holds v ground state-meets) (VariableAtom i)).gives (so_far.scalar i) (begins.scalars i);
+          scalars = λ i alone. (read_tree-value v base state-meets [] (nothing_holds v base state-meets) (VariableAtom i)).gives (so_far.scalar i) (begins.scalars i);
           cells = λ i j below. subst (λ ss. stored_value v i ss (pos j) ≡ cell_at s (record { variable = i; index = j })) (sym (begins.stores i)) (there i j (lt-ltb j (variable_at g i).size below));
         } where
           there : (i j : ℕ) → nat_lt j (variable_at g i).size ≡ true → cell_of g s i (pos j) ≡ cell_at s (record { variable = i; index = j })

@@ -75,11 +75,11 @@ module _ (v : Valuation) where
       let none = true-int_eq (divisor d.terms *ℤ m +ℤ d.constant) (pos 0) (and_second (not (int_eq (divisor d.terms) (pos 0))) _ more) in
       ap (λ x. x +ℤ d.constant) (sym (primitive-value v d.terms) ∙ ap (λ x. divisor d.terms *ℤ x) same) ∙ none
 
-  module _ (ground : Ground) where
-    meeting-value : (p : SumTerms) (m : ℤ) (low high : CaseTree) → meet_at ground p m low high ≡ true → terms_value v p ≡ m → tree_value v low ≡ tree_value v high
+  module _ (base : Ground) where
+    meeting-value : (p : SumTerms) (m : ℤ) (low high : CaseTree) → meet_at base p m low high ≡ true → terms_value v p ≡ m → tree_value v low ≡ tree_value v high
     meeting-value p m (Leaf s) (Leaf t) e is =
-        let none = vanishing-value p m (sum_added ground.before s (sum_scaled (negsuc 0) t)) e is in
-        let all = sum_added-value v ground.before s (sum_scaled (negsuc 0) t) in
+        let none = vanishing-value p m (sum_added base.before s (sum_scaled (negsuc 0) t)) e is in
+        let all = sum_added-value v base.before s (sum_scaled (negsuc 0) t) in
         let less = sum_scaled-value v (negsuc 0) t in
         let one = leaf-value s in
         let two = leaf-value t in
@@ -87,7 +87,7 @@ module _ (v : Valuation) where
     meeting-value p m (Leaf s) (Case q n c d) e is = cc
     meeting-value p m (Case q n a b) high e is = cc
 
-    lowered-value : (p : SumTerms) (m : ℤ) (low high : CaseTree) → meet_at ground p m low high ≡ true → either p (m -ℤ pos 1) low high ≡ either p m low high
+    lowered-value : (p : SumTerms) (m : ℤ) (low high : CaseTree) → meet_at base p m low high ≡ true → either p (m -ℤ pos 1) low high ≡ either p m low high
     lowered-value p m low high e =
         holds_cond (λ z. z ≡ either p m low high) (int_le (terms_value v p) (m -ℤ pos 1)) (tree_value v low) (tree_value v high)
         (λ t. either-low p m low high (let least = true-int_le (terms_value v p) (m -ℤ pos 1) t in omega (arith, ints)))
@@ -96,25 +96,25 @@ module _ (v : Valuation) where
         (λ u. let least = true-int_le (terms_value v p) m u in sym (meeting-value p m low high e (omega (arith, ints))))
         (λ u. refl))
 
-  module _ (ground : Ground) (k : Known) (meets : Meets ground v) (h : Holds v k) where
-    pub decided-value : (t : CaseTree) → Gives (tree_decided ground k t) (Has (tree_value v t))
+  module _ (base : Ground) (k : Known) (meets : Meets base v) (h : Holds v k) where
+    pub decided-value : (t : CaseTree) → Gives (tree_decided base k t) (Has (tree_value v t))
     unfolding tree_decided
     decided-value (Leaf s) = gives_some _ _ refl
     decided-value (Case p m low high) =
         let x = either p m low high in
-        subst (λ x. Gives (tree_decided ground k (Case p m low high)) (Has x)) (sym (case-value p m low high))
-        (then_gives (TermsWithin v p) (Has x) (primitive_ends ground k p) _ (primitive_ends-holds v ground k meets h p)
+        subst (λ x. Gives (tree_decided base k (Case p m low high)) (Has x)) (sym (case-value p m low high))
+        (then_gives (TermsWithin v p) (Has x) (primitive_ends base k p) _ (primitive_ends-holds v base k meets h p)
         (λ e w. gives_cond (Has x) (int_le e.hi m) _ _
         (λ t. gives_weaker (Has x) _ (decided-value low) (λ u f. f ∙ either-low p m low high (let top = true-int_le e.hi m t in omega (arith, ints, w.high))))
         (λ t. gives_cond (Has x) (int_lt m e.lo) _ _
         (λ t. gives_weaker (Has x) _ (decided-value high) (λ u f. f ∙ either-high p m low high (let top = lt_of m e.lo t in omega (arith, ints, w.low))))
         (λ t. gives_some (Has x) _ (case-value p m low high)))))
 
-    pub case_of-value : (p : SumTerms) (m : ℤ) (low high : CaseTree) → Gives (case_of ground k p m low high) (Has (either p m low high))
+    pub case_of-value : (p : SumTerms) (m : ℤ) (low high : CaseTree) → Gives (case_of base k p m low high) (Has (either p m low high))
     case_of-value p m low high =
         let x = either p m low high in
-        then_gives (TermsWithin v p) (Has x) (primitive_ends ground k p) _ (primitive_ends-holds v ground k meets h p)
+        then_gives (TermsWithin v p) (Has x) (primitive_ends base k p) _ (primitive_ends-holds v base k meets h p)
         (λ e w. gives_some (Has x) _ (decided_case-value e p m low high _ w
-        (holds_cond (Has x) (meet_at ground p m low high) _ _
-        (λ t. decided_case-value e p (m -ℤ pos 1) low high _ w (case-value p (m -ℤ pos 1) low high) ∙ lowered-value ground p m low high t)
+        (holds_cond (Has x) (meet_at base p m low high) _ _
+        (λ t. decided_case-value e p (m -ℤ pos 1) low high _ w (case-value p (m -ℤ pos 1) low high) ∙ lowered-value base p m low high t)
         (λ t. case-value p m low high))))

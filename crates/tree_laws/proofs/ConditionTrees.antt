@@ -34,7 +34,7 @@ one_excludes : (a b c : Bool) → (a ≡ true → c ≡ false) → (a ≡ false 
 one_excludes true b c p q = ap truth (sym (p refl))
 one_excludes false b c p q = ap truth (q refl)
 
-module _ (v : Valuation) (ground : Ground) (meets : Meets ground v) where
+module _ (v : Valuation) (base : Ground) (meets : Meets base v) where
   pub constant-value : (n : ℤ) → tree_value v (number_tree n) ≡ n
   constant-value n = leaf-value v _ ∙ number-value v n
 
@@ -73,30 +73,30 @@ module _ (v : Valuation) (ground : Ground) (meets : Meets ground v) where
     Goes : ℤ → CaseTree → Type 0
     Goes x t = F x (tree_value v t)
 
-    spliced-value : (t : CaseTree) (k : Known) → Holds v k → Gives (spliced ground f k t) (Goes (tree_value v t))
+    spliced-value : (t : CaseTree) (k : Known) → Holds v k → Gives (spliced base f k t) (Goes (tree_value v t))
     unfolding spliced Goes
     spliced-value (Leaf s) k h =
-        then_gives (Is v (sum_value v s)) (Goes (tree_value v (Leaf s))) (sum_settled ground k s) _ (settled-value v ground k meets h s)
+        then_gives (Is v (sum_value v s)) (Goes (tree_value v (Leaf s))) (sum_settled base k s) _ (settled-value v base k meets h s)
         (λ t e. gives_weaker (Goes (tree_value v (Leaf s))) _ (gives k h t) (λ r g. subst (λ x. F x (tree_value v r)) (e ∙ sym (leaf-value v s)) g))
     spliced-value (Case p m low high) k h =
         let x = tree_value v (Case p m low high) in
         let Q = Goes x in
-        then_gives (TermsWithin v p) Q (primitive_ends ground k p) _ (primitive_ends-holds v ground k meets h p)
+        then_gives (TermsWithin v p) Q (primitive_ends base k p) _ (primitive_ends-holds v base k meets h p)
         (λ e w. gives_cond Q (int_le e.hi m) _ _
-        (λ t. subst (λ x. Gives (spliced ground f k low) (Goes x)) (low-value p m low high (ends_low p m e w t)) (spliced-value low k h))
+        (λ t. subst (λ x. Gives (spliced base f k low) (Goes x)) (low-value p m low high (ends_low p m e w t)) (spliced-value low k h))
         (λ t. gives_cond Q (int_lt m e.lo) _ _
-        (λ t. subst (λ x. Gives (spliced ground f k high) (Goes x)) (high-value p m low high (ends_high p m e w t)) (spliced-value high k h))
-        (λ t. then_gives (λ u. terms_value v p ≤ℤ m → Holds v u) Q (known_most ground k p m) _ (gives_if (Holds v) _ (known_most-holds v ground k meets h p m))
-        (λ under lowly. then_gives (λ u. m <ℤ terms_value v p → Holds v u) Q (known_above ground k p m) _ (gives_if (Holds v) _ (known_above-holds v ground k meets h p m))
-        (λ over highly. then_gives (λ a. terms_value v p ≤ℤ m → Goes (tree_value v low) a) Q (spliced ground f under low) _ (gives_if (Goes (tree_value v low)) _ (λ least. spliced-value low under (lowly least)))
-        (λ a is_a. then_gives (λ b. m <ℤ terms_value v p → Goes (tree_value v high) b) Q (spliced ground f over high) _ (gives_if (Goes (tree_value v high)) _ (λ above. spliced-value high over (highly above)))
-        (λ b is_b. gives_weaker Q _ (choose-value v ground meets k h (Case p m (number_tree (pos 1)) (number_tree (pos 0))) a b)
+        (λ t. subst (λ x. Gives (spliced base f k high) (Goes x)) (high-value p m low high (ends_high p m e w t)) (spliced-value high k h))
+        (λ t. then_gives (λ u. terms_value v p ≤ℤ m → Holds v u) Q (known_most base k p m) _ (gives_if (Holds v) _ (known_most-holds v base k meets h p m))
+        (λ under lowly. then_gives (λ u. m <ℤ terms_value v p → Holds v u) Q (known_above base k p m) _ (gives_if (Holds v) _ (known_above-holds v base k meets h p m))
+        (λ over highly. then_gives (λ a. terms_value v p ≤ℤ m → Goes (tree_value v low) a) Q (spliced base f under low) _ (gives_if (Goes (tree_value v low)) _ (λ least. spliced-value low under (lowly least)))
+        (λ a is_a. then_gives (λ b. m <ℤ terms_value v p → Goes (tree_value v high) b) Q (spliced base f over high) _ (gives_if (Goes (tree_value v high)) _ (λ above. spliced-value high over (highly above)))
+        (λ b is_b. gives_weaker Q _ (choose-value v base meets k h (Case p m (number_tree (pos 1)) (number_tree (pos 0))) a b)
         (λ r c. let sides = chosen_side p m (tree_value v a) (tree_value v b) (tree_value v r) c in
         by_sides p m
         (λ least. subst (λ y. F y (tree_value v r)) (low-value p m low high least) (subst (F (tree_value v low)) (sym (sides.0 least)) (is_a least)))
         (λ above. subst (λ y. F y (tree_value v r)) (high-value p m low high above) (subst (F (tree_value v high)) (sym (sides.1 above)) (is_b above)))))))))))
 
-    pub spliced_gives : (t : CaseTree) (k : Known) → Holds v k → (r : CaseTree) → spliced ground f k t ≡ Some r → F (tree_value v t) (tree_value v r)
+    pub spliced_gives : (t : CaseTree) (k : Known) → Holds v k → (r : CaseTree) → spliced base f k t ≡ Some r → F (tree_value v t) (tree_value v r)
     unfolding Goes
     spliced_gives t k h r is = (spliced-value t k h).gives r is
 
@@ -112,19 +112,19 @@ module _ (v : Valuation) (ground : Ground) (meets : Meets ground v) where
     turned true = refl
     turned false = refl
 
-  at_most_by-value : (g : ℤ) (k : Known) → Holds v k → (p : SumTerms) (d : ℤ) → Gives (at_most_by ground g k p d) (Has v (truth (int_le (g *ℤ terms_value v p) d)))
+  at_most_by-value : (g : ℤ) (k : Known) → Holds v k → (p : SumTerms) (d : ℤ) → Gives (at_most_by base g k p d) (Has v (truth (int_le (g *ℤ terms_value v p) d)))
   at_most_by-value (pos zero) k h p d = gives_none _
   at_most_by-value (pos (suc g)) k h p d =
-      gives_weaker (Has v (truth (int_le (pos (suc g) *ℤ terms_value v p) d))) _ (case_of-value v ground k meets h p _ _ _)
+      gives_weaker (Has v (truth (int_le (pos (suc g) *ℤ terms_value v p) d))) _ (case_of-value v base k meets h p _ _ _)
       (λ t e. e ∙ truth_case p (floor_div d (suc g)) ∙ ap truth (floor-test d (terms_value v p) g))
   at_most_by-value (negsuc g) k h p d =
-      gives_weaker (Has v (truth (int_le (negsuc g *ℤ terms_value v p) d))) _ (case_of-value v ground k meets h p _ _ _)
+      gives_weaker (Has v (truth (int_le (negsuc g *ℤ terms_value v p) d))) _ (case_of-value v base k meets h p _ _ _)
       (λ t e. e ∙ false_case p (neg_ℤ (floor_div d (suc g)) -ℤ pos 1) ∙ ap truth (floor-opposite d (terms_value v p) g))
 
   moved : (x c n : ℤ) → int_le x (n -ℤ c) ≡ int_le (x +ℤ c) n
   moved x c n = grind (arith, ints)
 
-  at_most_terms-value : (ts : SumTerms) (c n : ℤ) (k : Known) → Holds v k → Gives (at_most_leaf ground n k (record { terms = ts; constant = c })) (Has v (truth (int_le (terms_value v ts +ℤ c) n)))
+  at_most_terms-value : (ts : SumTerms) (c n : ℤ) (k : Known) → Holds v k → Gives (at_most_leaf base n k (record { terms = ts; constant = c })) (Has v (truth (int_le (terms_value v ts +ℤ c) n)))
   at_most_terms-value NoTerms c n k h = gives_some _ _ (constant-value _ ∙ ap (λ x. truth (int_le x n)) (sym (number-value v c)))
   at_most_terms-value (Term d a ts) c n k h =
       let us = Term d a ts in
@@ -135,9 +135,9 @@ module _ (v : Valuation) (ground : Ground) (meets : Meets ground v) where
   IsAtMost : ℤ → ℤ → ℤ → Type 0
   IsAtMost n x z = z ≡ truth (int_le x n)
 
-  pub at_most-value : (n : ℤ) (k : Known) → Holds v k → (t : CaseTree) → Gives (at_most_tree ground k t n) (Has v (truth (int_le (tree_value v t) n)))
+  pub at_most-value : (n : ℤ) (k : Known) → Holds v k → (t : CaseTree) → Gives (at_most_tree base k t n) (Has v (truth (int_le (tree_value v t) n)))
   unfolding IsAtMost Goes
-  at_most-value n k h t = spliced-value (at_most_leaf ground n) (IsAtMost n) (λ k h s. at_most_terms-value s.terms s.constant n k h) t k h
+  at_most-value n k h t = spliced-value (at_most_leaf base n) (IsAtMost n) (λ k h s. at_most_terms-value s.terms s.constant n k h) t k h
 
   -- a condition that excludes another one: 0 where it is 1, and else the other
   excluded : (c x z : ℤ) (b : Bool) → Chosen c (pos 0) x z → c ≡ truth b → z ≡ cond b (pos 0) x
@@ -145,10 +145,10 @@ module _ (v : Valuation) (ground : Ground) (meets : Meets ground v) where
   excluded c x z false h e = h.none e
 
   module _ (k : Known) (h : Holds v k) where
-    pub less-value : (a b : CaseTree) → Gives (less_tree ground k a b) (Has v (truth (int_lt (tree_value v a) (tree_value v b))))
+    pub less-value : (a b : CaseTree) → Gives (less_tree base k a b) (Has v (truth (int_lt (tree_value v a) (tree_value v b))))
     less-value a b =
         let Q = Has v (truth (int_lt (tree_value v a) (tree_value v b))) in
-        then_gives (Has v (tree_value v a -ℤ tree_value v b)) Q (tree_difference ground k a b) _ (tree_difference-value v ground meets k h a b)
+        then_gives (Has v (tree_value v a -ℤ tree_value v b)) Q (tree_difference base k a b) _ (tree_difference-value v base meets k h a b)
         (λ d e. gives_weaker Q _ (at_most-value (negsuc 0) k h d) (λ t f. f ∙ ap (λ x. truth (int_le x (negsuc 0))) e ∙ ap truth (below (tree_value v a) (tree_value v b)))) where
           below : (x y : ℤ) → int_le (x -ℤ y) (negsuc 0) ≡ int_lt x y
           below x y = grind (arith, ints)
@@ -161,13 +161,13 @@ module _ (v : Valuation) (ground : Ground) (meets : Meets ground v) where
         (λ t. let least = true-int_le (x -ℤ y) (pos 0) t in int_eq-true x y (omega (arith, ints)))
         (λ t. let same = true-int_eq x y t in int_le-true (x -ℤ y) (pos 0) (omega (arith, ints))))
 
-    pub equal-value : (a b : CaseTree) → Gives (equal_tree ground k a b) (Has v (truth (int_eq (tree_value v a) (tree_value v b))))
+    pub equal-value : (a b : CaseTree) → Gives (equal_tree base k a b) (Has v (truth (int_eq (tree_value v a) (tree_value v b))))
     equal-value a b =
         let Q = Has v (truth (int_eq (tree_value v a) (tree_value v b))) in
-        then_gives (Has v (tree_value v a -ℤ tree_value v b)) Q (tree_difference ground k a b) _ (tree_difference-value v ground meets k h a b)
-        (λ d e. then_gives (Has v (truth (int_le (tree_value v d) (negsuc 0)))) Q (at_most_tree ground k d (negsuc 0)) _ (at_most-value (negsuc 0) k h d)
-        (λ below f. then_gives (Has v (truth (int_le (tree_value v d) (pos 0)))) Q (at_most_tree ground k d (pos 0)) _ (at_most-value (pos 0) k h d)
-        (λ upto g. gives_weaker Q _ (choose-value v ground meets k h below (number_tree (pos 0)) upto)
+        then_gives (Has v (tree_value v a -ℤ tree_value v b)) Q (tree_difference base k a b) _ (tree_difference-value v base meets k h a b)
+        (λ d e. then_gives (Has v (truth (int_le (tree_value v d) (negsuc 0)))) Q (at_most_tree base k d (negsuc 0)) _ (at_most-value (negsuc 0) k h d)
+        (λ below f. then_gives (Has v (truth (int_le (tree_value v d) (pos 0)))) Q (at_most_tree base k d (pos 0)) _ (at_most-value (pos 0) k h d)
+        (λ upto g. gives_weaker Q _ (choose-value v base meets k h below (number_tree (pos 0)) upto)
         (λ t c.
         excluded _ _ _ (int_le (tree_value v d) (negsuc 0)) (subst (λ y. Chosen (tree_value v below) y (tree_value v upto) (tree_value v t)) (constant-value (pos 0)) c) f
         ∙ ap (λ x. cond (int_le (tree_value v d) (negsuc 0)) (pos 0) x) g
@@ -183,21 +183,21 @@ module _ (v : Valuation) (ground : Ground) (meets : Meets ground v) where
         let low = int_le-true lo x (omega (arith, ints)) in
         sym (ap (λ b. b && int_le x hi) low))
 
-    pub between-value : (lo hi : ℤ) (t : CaseTree) → Gives (between_tree ground k t lo hi) (Has v (truth (within lo hi (tree_value v t))))
+    pub between-value : (lo hi : ℤ) (t : CaseTree) → Gives (between_tree base k t lo hi) (Has v (truth (within lo hi (tree_value v t))))
     between-value lo hi t =
         let Q = Has v (truth (within lo hi (tree_value v t))) in
-        then_gives (Has v (truth (int_le (tree_value v t) (lo -ℤ pos 1)))) Q (at_most_tree ground k t (lo -ℤ pos 1)) _ (at_most-value (lo -ℤ pos 1) k h t)
-        (λ below f. then_gives (Has v (truth (int_le (tree_value v t) hi))) Q (at_most_tree ground k t hi) _ (at_most-value hi k h t)
-        (λ upto g. gives_weaker Q _ (choose-value v ground meets k h below (number_tree (pos 0)) upto)
+        then_gives (Has v (truth (int_le (tree_value v t) (lo -ℤ pos 1)))) Q (at_most_tree base k t (lo -ℤ pos 1)) _ (at_most-value (lo -ℤ pos 1) k h t)
+        (λ below f. then_gives (Has v (truth (int_le (tree_value v t) hi))) Q (at_most_tree base k t hi) _ (at_most-value hi k h t)
+        (λ upto g. gives_weaker Q _ (choose-value v base meets k h below (number_tree (pos 0)) upto)
         (λ r c.
         excluded _ _ _ (int_le (tree_value v t) (lo -ℤ pos 1)) (subst (λ y. Chosen (tree_value v below) y (tree_value v upto) (tree_value v r)) (constant-value (pos 0)) c) f
         ∙ ap (λ x. cond (int_le (tree_value v t) (lo -ℤ pos 1)) (pos 0) x) g
         ∙ in_between lo hi (tree_value v t))))
 
     -- 1 less the condition
-    pub opposite-value : (c : CaseTree) → Gives (opposite_tree ground k c) (Has v (pos 1 -ℤ tree_value v c))
+    pub opposite-value : (c : CaseTree) → Gives (opposite_tree base k c) (Has v (pos 1 -ℤ tree_value v c))
     opposite-value c =
-        gives_weaker (Has v (pos 1 -ℤ tree_value v c)) _ (choose-value v ground meets k h c (number_tree (pos 0)) (number_tree (pos 1)))
+        gives_weaker (Has v (pos 1 -ℤ tree_value v c)) _ (choose-value v base meets k h c (number_tree (pos 0)) (number_tree (pos 1)))
         (λ t is. by t is is.truth) where
           by : (t : CaseTree) → Chosen (tree_value v c) (tree_value v (number_tree (pos 0))) (tree_value v (number_tree (pos 1))) (tree_value v t) → (tree_value v c ≡ pos 1) ⊎ (tree_value v c ≡ pos 0) → tree_value v t ≡ pos 1 -ℤ tree_value v c
           by t is (inl e) = is.one e ∙ constant-value (pos 0) ∙ sym (ap (λ x. pos 1 -ℤ x) e)
@@ -212,25 +212,25 @@ module _ (v : Valuation) (ground : Ground) (meets : Meets ground v) where
         (λ t. let least = true-int_le (terms_value v (only_atom a)) e.lo t in constant-value e.lo ∙ omega (arith, ints, w.low))
         (λ t. let above = of_not_le (terms_value v (only_atom a)) e.lo t in constant-value e.hi ∙ omega (arith, ints, w.high))
 
-    pub read_tree-value : (a : SumAtom) → Gives (read_tree ground k a) (Has v (atom_value v a))
+    pub read_tree-value : (a : SumAtom) → Gives (read_tree base k a) (Has v (atom_value v a))
     read_tree-value a =
         let Q = Has v (atom_value v a) in
-        then_gives (AtomWithin v a) Q (atom_ends ground k a) _ (atom_ends-holds v ground k meets h a)
+        then_gives (AtomWithin v a) Q (atom_ends base k a) _ (atom_ends-holds v base k meets h a)
         (λ e w. gives_cond Q (int_eq (e.lo +ℤ pos 1) e.hi) _ _
-        (λ t. gives_weaker Q _ (case_of-value v ground k meets h (only_atom a) e.lo (number_tree e.lo) (number_tree e.hi)) (λ r f. f ∙ two_numbers a e w (true-int_eq (e.lo +ℤ pos 1) e.hi t)))
+        (λ t. gives_weaker Q _ (case_of-value v base k meets h (only_atom a) e.lo (number_tree e.lo) (number_tree e.hi)) (λ r f. f ∙ two_numbers a e w (true-int_eq (e.lo +ℤ pos 1) e.hi t)))
         (λ t. gives_some Q _ (leaf-value v _ ∙ holds_cond (Is v (atom_value v a)) (int_eq e.lo e.hi) (number e.lo) (atom_sum a) (λ one. number-value v e.lo ∙ one_number e _ w one) (λ more. atom_sum-value v a))))
 
   -- the cell at an index, as a relation of the values
   IsCell : ℕ → ℤ → ℤ → Type 0
   IsCell i x z = z ≡ v.cell i x
 
-  cell_leaf-value : (i : ℕ) (k : Known) → Holds v k → (s : LinearSum) → Gives (cell_leaf ground i k s) (λ t. IsCell i (sum_value v s) (tree_value v t))
+  cell_leaf-value : (i : ℕ) (k : Known) → Holds v k → (s : LinearSum) → Gives (cell_leaf base i k s) (λ t. IsCell i (sum_value v s) (tree_value v t))
   unfolding IsCell atom_value
   cell_leaf-value i k h s = read_tree-value k h (CellAtom i s.terms s.constant)
 
-  pub read_cell-value : (i : ℕ) (k : Known) → Holds v k → (t : CaseTree) → Gives (read_cell ground i k t) (Has v (v.cell i (tree_value v t)))
+  pub read_cell-value : (i : ℕ) (k : Known) → Holds v k → (t : CaseTree) → Gives (read_cell base i k t) (Has v (v.cell i (tree_value v t)))
   unfolding IsCell Goes
-  read_cell-value i k h t = spliced-value (cell_leaf ground i) (IsCell i) (cell_leaf-value i) t k h
+  read_cell-value i k h t = spliced-value (cell_leaf base i) (IsCell i) (cell_leaf-value i) t k h
 
   -- ---- learned, and the ends of trees
 
@@ -245,23 +245,23 @@ module _ (v : Valuation) (ground : Ground) (meets : Meets ground v) where
   above_there p m low high none so = by_sides p m (λ least. absurd (so (sym (low-value p m low high least) ∙ none))) (λ above. above)
 
   -- what is learned of a condition holds wherever the condition isn't 0
-  pub learned-value : (t : CaseTree) (k : Known) → Holds v k → (tree_value v t ≡ pos 0 → ⊥) → Gives (learned ground k t) (Holds v)
+  pub learned-value : (t : CaseTree) (k : Known) → Holds v k → (tree_value v t ≡ pos 0 → ⊥) → Gives (learned base k t) (Holds v)
   unfolding learned
   learned-value (Leaf s) k h so = gives_some (Holds v) k h
   learned-value (Case p m low high) k h so =
       let Q = Holds v in
-      then_gives (TermsWithin v p) Q (primitive_ends ground k p) _ (primitive_ends-holds v ground k meets h p)
+      then_gives (TermsWithin v p) Q (primitive_ends base k p) _ (primitive_ends-holds v base k meets h p)
       (λ e w. gives_cond Q (int_le e.hi m) _ _
       (λ t. learned-value low k h (λ z. so (sym (low-value p m low high (ends_low p m e w t)) ∙ z)))
       (λ t. gives_cond Q (int_lt m e.lo) _ _
       (λ t. learned-value high k h (λ z. so (sym (high-value p m low high (ends_high p m e w t)) ∙ z)))
       (λ t. gives_cond Q (is_zero_tree high) _ _
       (λ t. let least = at_most_there p m low high (is_zero-value high t) so in
-      then_gives Q Q (known_most ground k p m) _ (known_most-holds v ground k meets h p m least)
+      then_gives Q Q (known_most base k p m) _ (known_most-holds v base k meets h p m least)
       (λ under holds. learned-value low under holds (λ z. so (sym (low-value p m low high least) ∙ z))))
       (λ t. gives_cond Q (is_zero_tree low) _ _
       (λ t. let above = above_there p m low high (is_zero-value low t) so in
-      then_gives Q Q (known_above ground k p m) _ (known_above-holds v ground k meets h p m above)
+      then_gives Q Q (known_above base k p m) _ (known_above-holds v base k meets h p m above)
       (λ over holds. learned-value high over holds (λ z. so (sym (high-value p m low high above) ∙ z))))
       (λ t. gives_some Q k h)))))
 
@@ -276,20 +276,20 @@ module _ (v : Valuation) (ground : Ground) (meets : Meets ground v) where
   TreeWithin t e = Within e (tree_value v t)
 
   -- the value of a tree lies between its ends
-  pub tree_ends-holds : (t : CaseTree) (k : Known) → Holds v k → Gives (tree_ends ground k t) (TreeWithin t)
+  pub tree_ends-holds : (t : CaseTree) (k : Known) → Holds v k → Gives (tree_ends base k t) (TreeWithin t)
   unfolding tree_ends
-  tree_ends-holds (Leaf s) k h = gives_weaker (TreeWithin (Leaf s)) _ (sum_ends-holds v ground k meets h s) (λ e w. subst (Within e) (sym (leaf-value v s)) w)
+  tree_ends-holds (Leaf s) k h = gives_weaker (TreeWithin (Leaf s)) _ (sum_ends-holds v base k meets h s) (λ e w. subst (Within e) (sym (leaf-value v s)) w)
   tree_ends-holds (Case p m low high) k h =
       let Q = TreeWithin (Case p m low high) in
-      then_gives (TermsWithin v p) Q (primitive_ends ground k p) _ (primitive_ends-holds v ground k meets h p)
+      then_gives (TermsWithin v p) Q (primitive_ends base k p) _ (primitive_ends-holds v base k meets h p)
       (λ e w. gives_cond Q (int_le e.hi m) _ _
       (λ t. gives_weaker Q _ (tree_ends-holds low k h) (λ f u. subst (Within f) (low-value p m low high (ends_low p m e w t)) u))
       (λ t. gives_cond Q (int_lt m e.lo) _ _
       (λ t. gives_weaker Q _ (tree_ends-holds high k h) (λ f u. subst (Within f) (high-value p m low high (ends_high p m e w t)) u))
-      (λ t. then_gives (λ u. terms_value v p ≤ℤ m → Holds v u) Q (known_most ground k p m) _ (gives_if (Holds v) _ (known_most-holds v ground k meets h p m))
-      (λ under lowly. then_gives (λ u. m <ℤ terms_value v p → Holds v u) Q (known_above ground k p m) _ (gives_if (Holds v) _ (known_above-holds v ground k meets h p m))
-      (λ over highly. then_gives (λ a. terms_value v p ≤ℤ m → TreeWithin low a) Q (tree_ends ground under low) _ (gives_if (TreeWithin low) _ (λ least. tree_ends-holds low under (lowly least)))
-      (λ a is_a. then_gives (λ b. m <ℤ terms_value v p → TreeWithin high b) Q (tree_ends ground over high) _ (gives_if (TreeWithin high) _ (λ above. tree_ends-holds high over (highly above)))
+      (λ t. then_gives (λ u. terms_value v p ≤ℤ m → Holds v u) Q (known_most base k p m) _ (gives_if (Holds v) _ (known_most-holds v base k meets h p m))
+      (λ under lowly. then_gives (λ u. m <ℤ terms_value v p → Holds v u) Q (known_above base k p m) _ (gives_if (Holds v) _ (known_above-holds v base k meets h p m))
+      (λ over highly. then_gives (λ a. terms_value v p ≤ℤ m → TreeWithin low a) Q (tree_ends base under low) _ (gives_if (TreeWithin low) _ (λ least. tree_ends-holds low under (lowly least)))
+      (λ a is_a. then_gives (λ b. m <ℤ terms_value v p → TreeWithin high b) Q (tree_ends base over high) _ (gives_if (TreeWithin high) _ (λ above. tree_ends-holds high over (highly above)))
       (λ b is_b. gives_some Q _ (by_sides p m
       (λ least. subst (Within (both_ends a b)) (low-value p m low high least) (both_ends-left a b _ (is_a least)))
       (λ above. subst (Within (both_ends a b)) (high-value p m low high above) (both_ends-right a b _ (is_b above)))))))))))

@@ -70,34 +70,34 @@ module _ (v : Valuation) where
   both_numbers-value : (op : Operation) (s t : LinearSum) → both_numbers s t ≡ true → operation_value op s.constant t.constant ≡ operation_value op (sum_value v s) (sum_value v t)
   both_numbers-value op s t e = ap₂ (operation_value op) (sym (is_number-value s (and_first (is_number s) _ e))) (sym (is_number-value t (and_second (is_number s) _ e)))
 
-  module _ (ground : Ground) where
-    pub added-value : (s t : LinearSum) → Gives (added ground s t) (Is (sum_value v s +ℤ sum_value v t))
-    added-value s t = limited-gives _ _ (sum_added-value v ground.before s t)
+  module _ (base : Ground) where
+    pub added-value : (s t : LinearSum) → Gives (added base s t) (Is (sum_value v s +ℤ sum_value v t))
+    added-value s t = limited-gives _ _ (sum_added-value v base.before s t)
 
-    pub scaled-value : (k : ℤ) (s : LinearSum) → Gives (scaled ground k s) (Is (k *ℤ sum_value v s))
+    pub scaled-value : (k : ℤ) (s : LinearSum) → Gives (scaled base k s) (Is (k *ℤ sum_value v s))
     scaled-value k s = limited-gives _ _ (sum_scaled-value v k s)
 
-    pub subtracted-value : (s t : LinearSum) → Gives (subtracted ground s t) (Is (sum_value v s -ℤ sum_value v t))
+    pub subtracted-value : (s t : LinearSum) → Gives (subtracted base s t) (Is (sum_value v s -ℤ sum_value v t))
     subtracted-value s t =
-        then_gives (Is (negsuc 0 *ℤ sum_value v t)) (Is (sum_value v s -ℤ sum_value v t)) (scaled ground (negsuc 0) t) _ (scaled-value (negsuc 0) t)
+        then_gives (Is (negsuc 0 *ℤ sum_value v t)) (Is (sum_value v s -ℤ sum_value v t)) (scaled base (negsuc 0) t) _ (scaled-value (negsuc 0) t)
         (λ u e. gives_weaker (Is (sum_value v s -ℤ sum_value v t)) _ (added-value s u) (λ r f. omega (arith, ints)))
 
-    in_order-value : (s t : LinearSum) → sum_value v (product_in_order ground s t) ≡ sum_value v s *ℤ sum_value v t
+    in_order-value : (s t : LinearSum) → sum_value v (product_in_order base s t) ≡ sum_value v s *ℤ sum_value v t
     in_order-value s t =
-        holds_cond (Is (sum_value v s *ℤ sum_value v t)) (ground.sum_before t s) (combined Mul t s) (combined Mul s t)
+        holds_cond (Is (sum_value v s *ℤ sum_value v t)) (base.sum_before t s) (combined Mul t s) (combined Mul s t)
         (λ e. combined-value Mul t s ∙ *ℤ_comm (sum_value v t) (sum_value v s))
         (λ e. combined-value Mul s t)
 
-    product-value : (s t : LinearSum) → Gives (product ground s t) (Is (sum_value v s *ℤ sum_value v t))
+    product-value : (s t : LinearSum) → Gives (product base s t) (Is (sum_value v s *ℤ sum_value v t))
     product-value s t =
         let g = sum_divisor s in
         let h = sum_divisor t in
         let x = sum_value v (sum_divided g s) in
         let y = sum_value v (sum_divided h t) in
-        gives_weaker (Is (sum_value v s *ℤ sum_value v t)) _ (scaled-value (g *ℤ h) (product_in_order ground (sum_divided g s) (sum_divided h t)))
+        gives_weaker (Is (sum_value v s *ℤ sum_value v t)) _ (scaled-value (g *ℤ h) (product_in_order base (sum_divided g s) (sum_divided h t)))
         (λ r e. e ∙ ap (λ z. (g *ℤ h) *ℤ z) (in_order-value (sum_divided g s) (sum_divided h t)) ∙ four g h x y ∙ ap₂ (λ a b. a *ℤ b) (sum_divided-value v s) (sum_divided-value v t))
 
-    multiplied-value : (s t : LinearSum) → Gives (multiplied ground s t) (Is (sum_value v s *ℤ sum_value v t))
+    multiplied-value : (s t : LinearSum) → Gives (multiplied base s t) (Is (sum_value v s *ℤ sum_value v t))
     multiplied-value s t =
         gives_cond (Is (sum_value v s *ℤ sum_value v t)) (is_number s) _ _
         (λ e. gives_weaker (Is (sum_value v s *ℤ sum_value v t)) _ (scaled-value s.constant t) (λ r f. f ∙ ap (λ x. x *ℤ sum_value v t) (sym (is_number-value s e))))
@@ -105,7 +105,7 @@ module _ (v : Valuation) where
         (λ e. gives_weaker (Is (sum_value v s *ℤ sum_value v t)) _ (scaled-value t.constant s) (λ r f. f ∙ ap (λ x. x *ℤ sum_value v s) (sym (is_number-value t e)) ∙ *ℤ_comm (sum_value v t) (sum_value v s)))
         (λ e. product-value s t))
 
-    quotient-value : (s t : LinearSum) → Gives (quotient ground s t) (Is (operation_value Div (sum_value v s) (sum_value v t)))
+    quotient-value : (s t : LinearSum) → Gives (quotient base s t) (Is (operation_value Div (sum_value v s) (sum_value v t)))
     quotient-value s t =
         let Q = Is (operation_value Div (sum_value v s) (sum_value v t)) in
         gives_cond Q (both_numbers s t) _ _
@@ -114,37 +114,37 @@ module _ (v : Valuation) where
         (λ e. gives_some Q s (by_one (sum_value v s) (sum_value v t) (ap (sum_value v) (true-same_sum t (number (pos 1)) e) ∙ number-value (pos 1))))
         (λ e. limited-gives Q _ (combined-value Div s t)))
 
-    module _ (k : Known) (meets : Meets ground v) (h : Holds v k) where
-      rest-value : (s t : LinearSum) → Gives (rest ground k s t) (Is (operation_value Rem (sum_value v s) (sum_value v t)))
+    module _ (k : Known) (meets : Meets base v) (h : Holds v k) where
+      rest-value : (s t : LinearSum) → Gives (rest base k s t) (Is (operation_value Rem (sum_value v s) (sum_value v t)))
       rest-value s t =
           let Q = Is (operation_value Rem (sum_value v s) (sum_value v t)) in
           gives_cond Q (both_numbers s t) _ _
           (λ e. limited-gives Q _ (number-value _ ∙ both_numbers-value Rem s t e))
           (λ e. gives_cond Q (is_number t && not (int_eq t.constant (pos 0))) _ _
-          (λ e. then_gives (SumWithin v s) Q (sum_ends ground k s) _ (sum_ends-holds v ground k meets h s)
+          (λ e. then_gives (SumWithin v s) Q (sum_ends base k s) _ (sum_ends-holds v base k meets h s)
           (λ f w. gives_cond Q (stays_below t.constant f) _ _
           (λ small. gives_some Q s (below_divisor f (sum_value v s) (sum_value v t) t.constant w (is_number-value t (and_first (is_number t) _ e)) small))
           (λ large. limited-gives Q _ (combined-value Rem s t))))
           (λ e. limited-gives Q _ (combined-value Rem s t)))
 
-      pub operation-value : (op : Operation) (s t : LinearSum) → Gives (operation ground k op s t) (Is (operation_value op (sum_value v s) (sum_value v t)))
+      pub operation-value : (op : Operation) (s t : LinearSum) → Gives (operation base k op s t) (Is (operation_value op (sum_value v s) (sum_value v t)))
       operation-value Mul s t = multiplied-value s t
       operation-value Div s t = quotient-value s t
       operation-value Rem s t = rest-value s t
 
-      pub pinned-value : (a : SumAtom) → Gives (pinned ground k a) (Is (atom_value v a))
+      pub pinned-value : (a : SumAtom) → Gives (pinned base k a) (Is (atom_value v a))
       pinned-value a =
-          then_gives (AtomWithin v a) (Is (atom_value v a)) (atom_ends ground k a) _ (atom_ends-holds v ground k meets h a)
+          then_gives (AtomWithin v a) (Is (atom_value v a)) (atom_ends base k a) _ (atom_ends-holds v base k meets h a)
           (λ e w. gives_some _ _ (holds_cond (Is (atom_value v a)) (int_eq e.lo e.hi) (number e.lo) (atom_sum a)
           (λ t. number-value e.lo ∙ one_number e _ w t)
           (λ t. atom_sum-value a)))
 
-      pinned_multiple-value : (ts : SumTerms) (n : ℤ) → Gives (pinned_multiple ground k ts n) (Is (terms_value v ts +ℤ n))
+      pinned_multiple-value : (ts : SumTerms) (n : ℤ) → Gives (pinned_multiple base k ts n) (Is (terms_value v ts +ℤ n))
       pinned_multiple-value NoTerms n = gives_some _ _ refl
       pinned_multiple-value (Term c a NoTerms) n =
           let Q = Is (terms_value v (Term c a NoTerms) +ℤ n) in
-          then_gives (Is (atom_value v a)) Q (pinned ground k a) _ (pinned-value a)
-          (λ s e. then_gives (Is (c *ℤ sum_value v s)) Q (scaled ground c s) _ (scaled-value c s)
+          then_gives (Is (atom_value v a)) Q (pinned base k a) _ (pinned-value a)
+          (λ s e. then_gives (Is (c *ℤ sum_value v s)) Q (scaled base c s) _ (scaled-value c s)
           (λ t f. gives_weaker Q _ (added-value t (number n))
           (λ r g.
           let one = term-value v c a NoTerms in
@@ -154,48 +154,48 @@ module _ (v : Valuation) where
           omega (arith, ints))))
       pinned_multiple-value (Term c a (Term d b ts)) n = gives_some _ _ refl
 
-      finished-value : (s : LinearSum) (c : ℤ) → Gives (sum_closed ground k s c) (Is (sum_value v s +ℤ c))
+      finished-value : (s : LinearSum) (c : ℤ) → Gives (sum_closed base k s c) (Is (sum_value v s +ℤ c))
       finished-value s c =
           let Q = Is (sum_value v s +ℤ c) in
-          then_gives Q Q (added ground s (number c)) _ (gives_weaker Q _ (added-value s (number c)) (λ t e. let last = number-value c in omega (arith, ints)))
-          (λ t e. then_gives (SumWithin v t) Q (sum_ends ground k t) _ (sum_ends-holds v ground k meets h t)
+          then_gives Q Q (added base s (number c)) _ (gives_weaker Q _ (added-value s (number c)) (λ t e. let last = number-value c in omega (arith, ints)))
+          (λ t e. then_gives (SumWithin v t) Q (sum_ends base k t) _ (sum_ends-holds v base k meets h t)
           (λ f w. gives_some Q _ (holds_cond Q (int_eq f.lo f.hi) (number f.lo) t (λ one. number-value f.lo ∙ one_number f _ w one ∙ e) (λ more. e))))
 
       mutual
         unfolding settled_atom settled_terms atom_value terms_value
 
-        settled_atom-value : (a : SumAtom) → Gives (settled_atom ground k a) (Is (atom_value v a))
+        settled_atom-value : (a : SumAtom) → Gives (settled_atom base k a) (Is (atom_value v a))
         settled_atom-value (VariableAtom i) = pinned-value (VariableAtom i)
         settled_atom-value (ReceivedAtom i) = pinned-value (ReceivedAtom i)
         settled_atom-value (WordAtom i) = pinned-value (WordAtom i)
         settled_atom-value ClockAtom = pinned-value ClockAtom
         settled_atom-value (CellAtom i ts c) =
             let Q = Is (atom_value v (CellAtom i ts c)) in
-            then_gives (Is (terms_value v ts)) Q (settled_terms ground k ts) _ (settled_terms-value ts)
-            (λ r e. then_gives (Is (sum_value v r +ℤ c)) Q (sum_closed ground k r c) _ (finished-value r c)
+            then_gives (Is (terms_value v ts)) Q (settled_terms base k ts) _ (settled_terms-value ts)
+            (λ r e. then_gives (Is (sum_value v r +ℤ c)) Q (sum_closed base k r c) _ (finished-value r c)
             (λ s f. gives_weaker Q _ (pinned-value (CellAtom i s.terms s.constant)) (λ t g. g ∙ ap (v.cell i) (f ∙ ap (λ x. x +ℤ c) e))))
         settled_atom-value (OperationAtom op ts c us d) =
             let Q = Is (atom_value v (OperationAtom op ts c us d)) in
-            then_gives (Is (terms_value v ts)) Q (settled_terms ground k ts) _ (settled_terms-value ts)
-            (λ q e. then_gives (Is (sum_value v q +ℤ c)) Q (sum_closed ground k q c) _ (finished-value q c)
-            (λ s f. then_gives (Is (terms_value v us)) Q (settled_terms ground k us) _ (settled_terms-value us)
-            (λ r e'. then_gives (Is (sum_value v r +ℤ d)) Q (sum_closed ground k r d) _ (finished-value r d)
-            (λ t f'. then_gives (Is (operation_value op (sum_value v s) (sum_value v t))) Q (operation ground k op s t) _ (operation-value op s t)
+            then_gives (Is (terms_value v ts)) Q (settled_terms base k ts) _ (settled_terms-value ts)
+            (λ q e. then_gives (Is (sum_value v q +ℤ c)) Q (sum_closed base k q c) _ (finished-value q c)
+            (λ s f. then_gives (Is (terms_value v us)) Q (settled_terms base k us) _ (settled_terms-value us)
+            (λ r e'. then_gives (Is (sum_value v r +ℤ d)) Q (sum_closed base k r d) _ (finished-value r d)
+            (λ t f'. then_gives (Is (operation_value op (sum_value v s) (sum_value v t))) Q (operation base k op s t) _ (operation-value op s t)
             (λ o g. gives_weaker Q _ (pinned_multiple-value o.terms o.constant)
             (λ z y. y ∙ g ∙ ap₂ (operation_value op) (f ∙ ap (λ x. x +ℤ c) e) (f' ∙ ap (λ x. x +ℤ d) e')))))))
 
-        settled_terms-value : (ts : SumTerms) → Gives (settled_terms ground k ts) (Is (terms_value v ts))
+        settled_terms-value : (ts : SumTerms) → Gives (settled_terms base k ts) (Is (terms_value v ts))
         settled_terms-value NoTerms = gives_some _ _ (number-value (pos 0))
         settled_terms-value (Term c a ts) =
             let Q = Is (terms_value v (Term c a ts)) in
-            then_gives (Is (atom_value v a)) Q (settled_atom ground k a) _ (settled_atom-value a)
-            (λ s e. then_gives (Is (c *ℤ sum_value v s)) Q (scaled ground c s) _ (scaled-value c s)
-            (λ t f. then_gives (Is (terms_value v ts)) Q (settled_terms ground k ts) _ (settled_terms-value ts)
+            then_gives (Is (atom_value v a)) Q (settled_atom base k a) _ (settled_atom-value a)
+            (λ s e. then_gives (Is (c *ℤ sum_value v s)) Q (scaled base c s) _ (scaled-value c s)
+            (λ t f. then_gives (Is (terms_value v ts)) Q (settled_terms base k ts) _ (settled_terms-value ts)
             (λ r g. gives_weaker Q _ (added-value t r)
             (λ z y. y ∙ ap₂ (λ a b. a +ℤ b) (f ∙ ap (λ x. c *ℤ x) e) g))))
 
       -- a settled sum has the sum's value
-      pub settled-value : (s : LinearSum) → Gives (sum_settled ground k s) (Is (sum_value v s))
+      pub settled-value : (s : LinearSum) → Gives (sum_settled base k s) (Is (sum_value v s))
       settled-value s =
-          then_gives (Is (terms_value v s.terms)) (Is (sum_value v s)) (settled_terms ground k s.terms) _ (settled_terms-value s.terms)
+          then_gives (Is (terms_value v s.terms)) (Is (sum_value v s)) (settled_terms base k s.terms) _ (settled_terms-value s.terms)
           (λ r e. gives_weaker (Is (sum_value v s)) _ (finished-value r s.constant) (λ t f. f ∙ ap (λ x. x +ℤ s.constant) e))

@@ -39,6 +39,6 @@ valuation_of g s clk received word = record {
 }
 
 -- each scalar has its read, and nothing is stored yet
-pub record BeginsWithReads (ground : Ground) (so_far : SoFar) : Type 0 where
-  pub scalars : (i : ℕ) → read_tree ground [] (VariableAtom i) ≡ Some (so_far.scalar i)
+pub record BeginsWithReads (base : Ground) (so_far : SoFar) : Type 0 where
+  pub scalars : (i : ℕ) → read_tree base [] (VariableAtom i) ≡ Some (so_far.scalar i)
   pub stores : (i : ℕ) → so_far.stores i ≡ []

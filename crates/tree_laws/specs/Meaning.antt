@@ -11,12 +11,12 @@ pub record Within (e : Interval) (x : ℤ) : Type 0 where
   pub high : x ≤ℤ e.hi
 
 -- each atom that isn't an operation lies between its ends
-pub record Meets (ground : Ground) (v : Valuation) : Type 0 where
-  pub variable : (i : ℕ) → Within (ground.variable i) (v.variable i)
-  pub received : (i : ℕ) → Within (ground.received i) (v.received i)
-  pub word : (i : ℕ) → Within (ground.word i) (v.word i)
+pub record Meets (base : Ground) (v : Valuation) : Type 0 where
+  pub variable : (i : ℕ) → Within (base.variable i) (v.variable i)
+  pub received : (i : ℕ) → Within (base.received i) (v.received i)
+  pub word : (i : ℕ) → Within (base.word i) (v.word i)
   pub clock : Within (record { lo = pos 0; hi = pos (2 ^ 48) }) v.clock
-  pub cell : (i : ℕ) (j : ℤ) → Within (ground.cell i) (v.cell i j)
+  pub cell : (i : ℕ) (j : ℤ) → Within (base.cell i) (v.cell i j)
 
 -- each list that something is known of lies between its ends
 unfoldable pub Holds : Valuation → Known → Type 0

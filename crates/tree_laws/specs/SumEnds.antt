@@ -69,7 +69,7 @@ met_unless_alone k NoTerms e = e
 met_unless_alone k (Term c a NoTerms) e = e
 met_unless_alone k ts e = met e (known_of k ts)
 
-module _ (ground : Ground) (k : Known) where
+module _ (base : Ground) (k : Known) where
   -- the ends of a sum, from those of its terms over their divisor
   abbrev pub around : SumTerms → ℤ → Interval → Option Interval
   around ts c e = do
@@ -84,11 +84,11 @@ module _ (ground : Ground) (k : Known) where
 
   unfoldable mutual
     pub atom_ends : SumAtom → Option Interval
-    atom_ends (VariableAtom i) = narrowed (VariableAtom i) (ground.variable i)
-    atom_ends (ReceivedAtom i) = narrowed (ReceivedAtom i) (ground.received i)
-    atom_ends (WordAtom i) = narrowed (WordAtom i) (ground.word i)
+    atom_ends (VariableAtom i) = narrowed (VariableAtom i) (base.variable i)
+    atom_ends (ReceivedAtom i) = narrowed (ReceivedAtom i) (base.received i)
+    atom_ends (WordAtom i) = narrowed (WordAtom i) (base.word i)
     atom_ends ClockAtom = narrowed ClockAtom (record { lo = pos 0; hi = pos (2 ^ 48) })
-    atom_ends (CellAtom i ts c) = narrowed (CellAtom i ts c) (ground.cell i)
+    atom_ends (CellAtom i ts c) = narrowed (CellAtom i ts c) (base.cell i)
     atom_ends (OperationAtom op ts c us d) = do
       e ← terms_ends (divisor ts) ts
       a ← around ts c e

@@ -21,9 +21,9 @@ combined op s t = atom_sum (OperationAtom op s.terms s.constant t.terms t.consta
 abbrev pub stays_below : ℤ → Interval → Bool
 stays_below n e = int_le (pos 0) e.lo && int_le (e.hi +ℤ pos 1) (pos (unsigned_abs n))
 
-module _ (ground : Ground) where
+module _ (base : Ground) where
   abbrev pub added : LinearSum → LinearSum → Option LinearSum
-  added s t = limited (sum_added ground.before s t)
+  added s t = limited (sum_added base.before s t)
 
   abbrev pub scaled : ℤ → LinearSum → Option LinearSum
   scaled k s = limited (sum_scaled k s)
@@ -34,7 +34,7 @@ module _ (ground : Ground) where
     added s u
 
   abbrev pub product_in_order : LinearSum → LinearSum → LinearSum
-  product_in_order s t = cond (ground.sum_before t s) (combined Mul t s) (combined Mul s t)
+  product_in_order s t = cond (base.sum_before t s) (combined Mul t s) (combined Mul s t)
 
   -- of two sums that are no numbers
   abbrev pub product : LinearSum → LinearSum → Option LinearSum
@@ -54,7 +54,7 @@ module _ (ground : Ground) where
         cond (both_numbers s t) (limited (number (operation_value Rem s.constant t.constant)))
         (cond (is_number t && not (int_eq t.constant (pos 0)))
         (do
-          e ← sum_ends ground k s
+          e ← sum_ends base k s
           cond (stays_below t.constant e) (Some s) (limited (combined Rem s t)))
         (limited (combined Rem s t)))
 
@@ -66,7 +66,7 @@ module _ (ground : Ground) where
     -- an atom, or its one number
     abbrev pub pinned : SumAtom → Option LinearSum
     pinned a = do
-      e ← atom_ends ground k a
+      e ← atom_ends base k a
       Some (cond (int_eq e.lo e.hi) (number e.lo) (atom_sum a))
 
     -- a multiple of one atom, or its one number
@@ -81,7 +81,7 @@ module _ (ground : Ground) where
     abbrev pub sum_closed : LinearSum → ℤ → Option LinearSum
     sum_closed s c = do
       t ← added s (number c)
-      e ← sum_ends ground k t
+      e ← sum_ends base k t
       Some (cond (int_eq e.lo e.hi) (number e.lo) t)
 
     unfoldable mutual

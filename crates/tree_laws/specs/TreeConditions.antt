@@ -28,26 +28,26 @@ both_ends e f = record { lo = int_min e.lo f.lo; hi = int_max e.hi f.hi }
 abbrev pub OfLeaf : Type 0
 OfLeaf = Known → LinearSum → Option CaseTree
 
-module _ (ground : Ground) where
+module _ (base : Ground) where
   module _ (f : OfLeaf) where
     unfoldable pub spliced : Known → CaseTree → Option CaseTree
     spliced k (Leaf s) = do
-      t ← sum_settled ground k s
+      t ← sum_settled base k s
       f k t
     spliced k (Case p m low high) = do
-      e ← primitive_ends ground k p
+      e ← primitive_ends base k p
       cond (int_le e.hi m) (spliced k low) (cond (int_lt m e.lo) (spliced k high) (do
-        under ← known_most ground k p m
-        over ← known_above ground k p m
+        under ← known_most base k p m
+        over ← known_above base k p m
         a ← spliced under low
         b ← spliced over high
-        choose ground k (Case p m (number_tree (pos 1)) (number_tree (pos 0))) a b))
+        choose base k (Case p m (number_tree (pos 1)) (number_tree (pos 0))) a b))
 
   -- whether `g * P` is at most d, by the sign of g. No sum has 0 for g
   abbrev pub at_most_by : ℤ → Known → SumTerms → ℤ → Option CaseTree
   at_most_by (pos zero) k p d = None
-  at_most_by (pos (suc g)) k p d = case_of ground k p (floor_div d (suc g)) (number_tree (pos 1)) (number_tree (pos 0))
-  at_most_by (negsuc g) k p d = case_of ground k p (neg_ℤ (floor_div d (suc g)) -ℤ pos 1) (number_tree (pos 0)) (number_tree (pos 1))
+  at_most_by (pos (suc g)) k p d = case_of base k p (floor_div d (suc g)) (number_tree (pos 1)) (number_tree (pos 0))
+  at_most_by (negsuc g) k p d = case_of base k p (neg_ℤ (floor_div d (suc g)) -ℤ pos 1) (number_tree (pos 0)) (number_tree (pos 1))
 
   abbrev pub at_most_leaf : ℤ → Known → LinearSum → Option CaseTree
   at_most_leaf n k s = elim s.terms [
@@ -60,52 +60,52 @@ module _ (ground : Ground) where
 
   abbrev pub less_tree : Known → CaseTree → CaseTree → Option CaseTree
   less_tree k a b = do
-    d ← tree_difference ground k a b
+    d ← tree_difference base k a b
     at_most_tree k d (negsuc 0)
 
   abbrev pub equal_tree : Known → CaseTree → CaseTree → Option CaseTree
   equal_tree k a b = do
-    d ← tree_difference ground k a b
+    d ← tree_difference base k a b
     below ← at_most_tree k d (negsuc 0)
     upto ← at_most_tree k d (pos 0)
-    choose ground k below (number_tree (pos 0)) upto
+    choose base k below (number_tree (pos 0)) upto
 
   abbrev pub between_tree : Known → CaseTree → ℤ → ℤ → Option CaseTree
   between_tree k t lo hi = do
     below ← at_most_tree k t (lo -ℤ pos 1)
     upto ← at_most_tree k t hi
-    choose ground k below (number_tree (pos 0)) upto
+    choose base k below (number_tree (pos 0)) upto
 
   abbrev pub opposite_tree : Known → CaseTree → Option CaseTree
-  opposite_tree k c = choose ground k c (number_tree (pos 0)) (number_tree (pos 1))
+  opposite_tree k c = choose base k c (number_tree (pos 0)) (number_tree (pos 1))
 
   -- an atom of two numbers is a case, and one of one number that number
   abbrev pub read_by : Known → SumAtom → Interval → Option CaseTree
-  read_by k a e = cond (int_eq (e.lo +ℤ pos 1) e.hi) (case_of ground k (only_atom a) e.lo (number_tree e.lo) (number_tree e.hi)) (Some (Leaf (cond (int_eq e.lo e.hi) (number e.lo) (atom_sum a))))
+  read_by k a e = cond (int_eq (e.lo +ℤ pos 1) e.hi) (case_of base k (only_atom a) e.lo (number_tree e.lo) (number_tree e.hi)) (Some (Leaf (cond (int_eq e.lo e.hi) (number e.lo) (atom_sum a))))
 
   abbrev pub read_tree : Known → SumAtom → Option CaseTree
   read_tree k a = do
-    e ← atom_ends ground k a
+    e ← atom_ends base k a
     read_by k a e
 
   -- what is known where a condition isn't 0
   unfoldable pub learned : Known → CaseTree → Option Known
   learned k (Leaf s) = Some k
   learned k (Case p m low high) = do
-    e ← primitive_ends ground k p
+    e ← primitive_ends base k p
     cond (int_le e.hi m) (learned k low) (cond (int_lt m e.lo) (learned k high) (cond (is_zero_tree high) (do
-      under ← known_most ground k p m
+      under ← known_most base k p m
       learned under low) (cond (is_zero_tree low) (do
-        over ← known_above ground k p m
+        over ← known_above base k p m
         learned over high) (Some k))))
 
   unfoldable pub tree_ends : Known → CaseTree → Option Interval
-  tree_ends k (Leaf s) = sum_ends ground k s
+  tree_ends k (Leaf s) = sum_ends base k s
   tree_ends k (Case p m low high) = do
-    e ← primitive_ends ground k p
+    e ← primitive_ends base k p
     cond (int_le e.hi m) (tree_ends k low) (cond (int_lt m e.lo) (tree_ends k high) (do
-      under ← known_most ground k p m
-      over ← known_above ground k p m
+      under ← known_most base k p m
+      over ← known_above base k p m
       a ← tree_ends under low
       b ← tree_ends over high
       Some (both_ends a b)))

@@ -33,21 +33,21 @@ vanishes_at p m d = same_terms (primitive d.terms) p && (not (int_eq (divisor d.
 abbrev pub decided_case : Interval → ℤ → CaseTree → CaseTree → CaseTree → CaseTree
 decided_case e m low high other = cond (int_le e.hi m) low (cond (int_lt m e.lo) high (cond (same_tree low high) low other))
 
-module _ (ground : Ground) where
+module _ (base : Ground) where
   -- two leaves have one value where P is m
   abbrev pub meet_at : SumTerms → ℤ → CaseTree → CaseTree → Bool
-  meet_at p m (Leaf s) (Leaf t) = vanishes_at p m (sum_added ground.before s (sum_scaled (negsuc 0) t))
+  meet_at p m (Leaf s) (Leaf t) = vanishes_at p m (sum_added base.before s (sum_scaled (negsuc 0) t))
   meet_at p m low high = false
 
   module _ (k : Known) where
     unfoldable pub tree_decided : CaseTree → Option CaseTree
     tree_decided (Leaf s) = Some (Leaf s)
     tree_decided (Case p m low high) = do
-      e ← primitive_ends ground k p
+      e ← primitive_ends base k p
       cond (int_le e.hi m) (tree_decided low) (cond (int_lt m e.lo) (tree_decided high) (Some (Case p m low high)))
 
     -- of two leaves that meet at m, the case is the one at m - 1; that the leaves meet there too can't be
     abbrev pub case_of : SumTerms → ℤ → CaseTree → CaseTree → Option CaseTree
     case_of p m low high = do
-      e ← primitive_ends ground k p
+      e ← primitive_ends base k p
       Some (decided_case e m low high (cond (meet_at p m low high) (decided_case e (m -ℤ pos 1) low high (Case p (m -ℤ pos 1) low high)) (Case p m low high)))

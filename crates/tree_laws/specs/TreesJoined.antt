@@ -25,10 +25,10 @@ unfoldable pub cases : List CaseTree → ℕ
 cases [] = zero
 cases (t ∷ ts) = cases_in t + cases ts
 
-module _ (ground : Ground) where
+module _ (base : Ground) where
   -- cases are in the order of their lists, then of their numbers
   abbrev pub case_before : SumTerms → ℤ → SumTerms → ℤ → Bool
-  case_before p m q n = cond (same_terms p q) (int_lt m n) (ground.terms_before p q)
+  case_before p m q n = cond (same_terms p q) (int_lt m n) (base.terms_before p q)
 
   abbrev pub with_leaf : LinearSum → Heads → Heads
   with_leaf s (Leaves ss) = Leaves (s ∷ ss)
@@ -55,27 +55,27 @@ module _ (ground : Ground) where
   module _ (f : OfLeaves) where
     abbrev pub joined_leaves : Known → List LinearSum → Option Counted
     joined_leaves k ss = do
-      ts ← each_some (sum_settled ground k) ss
+      ts ← each_some (sum_settled base k) ss
       r ← f k ts
-      s ← sum_settled ground k r
+      s ← sum_settled base k r
       Some (record { tree = Leaf s; leaves = 1 })
 
     -- decided trees, by what stands first in them; deeper is how their parts are joined
     abbrev pub joined_at : (Known → List CaseTree → Option Counted) → Known → List CaseTree → Heads → Option Counted
     joined_at deeper k ds (Leaves ss) = joined_leaves k ss
     joined_at deeper k ds (First p m) = do
-      under ← known_most ground k p m
-      over ← known_above ground k p m
+      under ← known_most base k p m
+      over ← known_above base k p m
       a ← deeper under (map (lower p m) ds)
       b ← deeper over (map (upper p m) ds)
-      t ← case_of ground k p m a.tree b.tree
+      t ← case_of base k p m a.tree b.tree
       Some (record { tree = t; leaves = a.leaves + b.leaves })
 
     -- by n steps at most from any tree to its leaves
     unfoldable pub joined_within : ℕ → Known → List CaseTree → Option Counted
     joined_within zero k ts = None
     joined_within (suc n) k ts = do
-      ds ← each_some (tree_decided ground k) ts
+      ds ← each_some (tree_decided base k) ts
       joined_at (joined_within n) k ds (heads ds)
 
     -- each step takes a case away, so one more than there are cases is enough
@@ -91,13 +91,13 @@ module _ (ground : Ground) where
   of_two_sums f ss = None
 
   abbrev pub tree_sum : Known → CaseTree → CaseTree → Option CaseTree
-  tree_sum k a b = trees_joined (λ k. of_two_sums (added ground)) k (a ∷ b ∷ [])
+  tree_sum k a b = trees_joined (λ k. of_two_sums (added base)) k (a ∷ b ∷ [])
 
   abbrev pub tree_difference : Known → CaseTree → CaseTree → Option CaseTree
-  tree_difference k a b = trees_joined (λ k. of_two_sums (subtracted ground)) k (a ∷ b ∷ [])
+  tree_difference k a b = trees_joined (λ k. of_two_sums (subtracted base)) k (a ∷ b ∷ [])
 
   abbrev pub tree_operation : Operation → Known → CaseTree → CaseTree → Option CaseTree
-  tree_operation op k a b = trees_joined (λ k. of_two_sums (operation ground k op)) k (a ∷ b ∷ [])
+  tree_operation op k a b = trees_joined (λ k. of_two_sums (operation base k op)) k (a ∷ b ∷ [])
 
   -- the second where the first is 1, and the third where it is 0; a first leaf that is another sum has no choice
   abbrev pub chosen : LinearSum → LinearSum → LinearSum → Option LinearSum

@@ -45,29 +45,29 @@ pub record SoFar : Type 0 where
   pub scalar : ℕ → CaseTree
   pub stores : ℕ → List Stored
 
-module _ (ground : Ground) where
+module _ (base : Ground) where
   abbrev pub with_check : FaultKind → CaseTree → List Check → Option (List Check)
   with_check kind c [] = do
-    d ← renewed ground [] c
+    d ← renewed base [] c
     Some (record { kind = kind; tree = d } ∷ [])
   with_check kind c (it ∷ older) = cond (same_fault it.kind kind)
       (do
-        d ← choose ground [] it.tree c (number_tree (pos 0))
+        d ← choose base [] it.tree c (number_tree (pos 0))
         Some (record { kind = kind; tree = d } ∷ older))
       (do
-        d ← renewed ground [] c
+        d ← renewed base [] c
         Some (record { kind = kind; tree = d } ∷ it ∷ older))
 
   abbrev pub learned_newest : Known → List Check → Option Noted
   learned_newest k [] = Some (record { known = k; checks = [] })
   learned_newest k (it ∷ older) = do
-    l ← learned ground k it.tree
+    l ← learned base k it.tree
     Some (record { known = l; checks = it ∷ older })
 
   -- a check of this kind where the guard is 1
   abbrev pub note : FaultKind → CaseTree → CaseTree → Noted → Option Noted
   note kind guard condition n = do
-    c ← choose ground n.known guard condition (number_tree (pos 1))
+    c ← choose base n.known guard condition (number_tree (pos 1))
     cond (same_tree c (number_tree (pos 1))) (Some n) (do
       cs ← with_check kind c n.checks
       learned_newest n.known cs)
@@ -81,64 +81,64 @@ module _ (ground : Ground) where
   abbrev pub checked : CaseTree → Noted → Option CaseTree → Option Valued
   checked guard n o = do
     t ← o
-    e ← tree_ends ground n.known t
+    e ← tree_ends base n.known t
     cond (int_le lowest e.lo && int_le e.hi highest) (Some (record { tree = t; noted = n })) (do
-      c ← between_tree ground n.known t lowest highest
+      c ← between_tree base n.known t lowest highest
       m ← note faults.Overflow guard c n
       Some (record { tree = t; noted = m }))
 
   -- the divisor isn't 0
   abbrev pub divisor_checked : CaseTree → CaseTree → Noted → Option Noted
   divisor_checked guard b n = do
-    e ← equal_tree ground n.known b (number_tree (pos 0))
-    c ← opposite_tree ground n.known e
+    e ← equal_tree base n.known b (number_tree (pos 0))
+    c ← opposite_tree base n.known e
     note faults.DivisionByZero guard c n
 
   abbrev pub at_most_other : Known → CaseTree → CaseTree → Option CaseTree
   at_most_other k a b = do
-    d ← tree_difference ground k a b
-    at_most_tree ground k d (pos 0)
+    d ← tree_difference base k a b
+    at_most_tree base k d (pos 0)
 
   abbrev pub picked : Known → Option CaseTree → CaseTree → CaseTree → Option CaseTree
   picked k o a b = do
     c ← o
-    choose ground k c a b
+    choose base k c a b
 
   abbrev pub turned_about : Known → Option CaseTree → Option CaseTree
   turned_about k o = do
     c ← o
-    opposite_tree ground k c
+    opposite_tree base k c
 
   -- an operator at the trees of its operands
   abbrev pub operator : Operator → CaseTree → CaseTree → CaseTree → Noted → Option Valued
-  operator Add guard a b n = checked guard n (tree_sum ground n.known a b)
-  operator Subtract guard a b n = checked guard n (tree_difference ground n.known a b)
-  operator Multiply guard a b n = checked guard n (tree_operation ground Mul n.known a b)
+  operator Add guard a b n = checked guard n (tree_sum base n.known a b)
+  operator Subtract guard a b n = checked guard n (tree_difference base n.known a b)
+  operator Multiply guard a b n = checked guard n (tree_operation base Mul n.known a b)
   operator Divide guard a b n = do
     m ← divisor_checked guard b n
-    checked guard m (tree_operation ground Div m.known a b)
+    checked guard m (tree_operation base Div m.known a b)
   operator Remainder guard a b n = do
     m ← divisor_checked guard b n
-    plain m (tree_operation ground Rem m.known a b)
+    plain m (tree_operation base Rem m.known a b)
   operator Least guard a b n = plain n (picked n.known (at_most_other n.known a b) a b)
   operator Greatest guard a b n = plain n (picked n.known (at_most_other n.known a b) b a)
-  operator Equal guard a b n = plain n (equal_tree ground n.known a b)
-  operator NotEqual guard a b n = plain n (turned_about n.known (equal_tree ground n.known a b))
-  operator Below guard a b n = plain n (less_tree ground n.known a b)
+  operator Equal guard a b n = plain n (equal_tree base n.known a b)
+  operator NotEqual guard a b n = plain n (turned_about n.known (equal_tree base n.known a b))
+  operator Below guard a b n = plain n (less_tree base n.known a b)
   operator AtMost guard a b n = plain n (at_most_other n.known a b)
-  operator Above guard a b n = plain n (less_tree ground n.known b a)
+  operator Above guard a b n = plain n (less_tree base n.known b a)
   operator AtLeast guard a b n = plain n (at_most_other n.known b a)
-  operator And guard a b n = plain n (choose ground n.known a b (number_tree (pos 0)))
-  operator Or guard a b n = plain n (choose ground n.known a (number_tree (pos 1)) b)
+  operator And guard a b n = plain n (choose base n.known a b (number_tree (pos 0)))
+  operator Or guard a b n = plain n (choose base n.known a (number_tree (pos 1)) b)
 
   -- the guard of a part that counts where c is 1, and where c is 0
   abbrev pub guard_and : Known → CaseTree → CaseTree → Option CaseTree
-  guard_and k guard c = choose ground k guard c (number_tree (pos 0))
+  guard_and k guard c = choose base k guard c (number_tree (pos 0))
 
   abbrev pub guard_not : Known → CaseTree → CaseTree → Option CaseTree
   guard_not k guard c = do
-    d ← opposite_tree ground k c
-    choose ground k guard d (number_tree (pos 0))
+    d ← opposite_tree base k c
+    choose base k guard d (number_tree (pos 0))
 
   abbrev pub guard_beside : Operator → Known → CaseTree → CaseTree → Option CaseTree
   guard_beside And k guard a = guard_and k guard a
@@ -150,28 +150,28 @@ module _ (ground : Ground) where
   after_stores k a first [] = Some first
   after_stores k a first (s ∷ before) = do
     t ← after_stores k a first before
-    c ← equal_tree ground k a s.index
-    choose ground k c s.value t
+    c ← equal_tree base k a s.index
+    choose base k c s.value t
 
   module _ (g : EventGraph) (so_far : SoFar) where
     unfoldable pub valued : Expression → CaseTree → Noted → Option Valued
     valued (Number x) guard n = Some (record { tree = number_tree x; noted = n })
     valued (Truth b) guard n = Some (record { tree = number_tree (number_of b); noted = n })
-    valued Clock guard n = plain n (read_tree ground n.known ClockAtom)
+    valued Clock guard n = plain n (read_tree base n.known ClockAtom)
     valued (Scalar i) guard n = Some (record { tree = so_far.scalar i; noted = n })
     valued (Cell i e) guard n = do
       a ← valued e guard n
-      first ← read_cell ground i a.noted.known a.tree
+      first ← read_cell base i a.noted.known a.tree
       t ← after_stores a.noted.known a.tree first (so_far.stores i)
-      c ← between_tree ground a.noted.known a.tree (pos 0) (pos (variable_at g i).size -ℤ pos 1)
+      c ← between_tree base a.noted.known a.tree (pos 0) (pos (variable_at g i).size -ℤ pos 1)
       m ← note faults.IndexOutside guard c a.noted
       Some (record { tree = t; noted = m })
     valued (Negative e) guard n = do
       a ← valued e guard n
-      checked guard a.noted (tree_difference ground a.noted.known (number_tree (pos 0)) a.tree)
+      checked guard a.noted (tree_difference base a.noted.known (number_tree (pos 0)) a.tree)
     valued (Not e) guard n = do
       a ← valued e guard n
-      plain a.noted (opposite_tree ground a.noted.known a.tree)
+      plain a.noted (opposite_tree base a.noted.known a.tree)
     valued (Binary op left right) guard n = do
       a ← valued left guard n
       beside ← guard_beside op a.noted.known guard a.tree
@@ -183,4 +183,4 @@ module _ (ground : Ground) where
       a ← valued left where_one c.noted
       where_zero ← guard_not a.noted.known guard c.tree
       b ← valued right where_zero a.noted
-      plain b.noted (choose ground b.noted.known c.tree a.tree b.tree)
+      plain b.noted (choose base b.noted.known c.tree a.tree b.tree)

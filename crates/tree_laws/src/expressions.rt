@@ -16,13 +16,13 @@ ghost use Rattle.tree_laws.specs.ValuesAgree.{Agrees, TruthsWhereAsked};
 /// Under a guard that is 1 an expression has its tree's value, and all checks pass, or its fault is the kind of the first check that
 /// fails. Under a guard that is 0 all checks still pass. A check that failed before stays the first that fails.
 pub fn expressions_have_the_value_of_their_tree()
-    ensures counted { (ground : Ground) (v : Valuation) (g : EventGraph) (s : State) (clk : ℕ) (so_far : SoFar) → Meets ground v → Agrees v g s clk so_far
-        → (e : Expression) → TruthsWhereAsked g s clk e → (guard : CaseTree) (n : Noted) (w : Valued) → valued ground g so_far e guard n ≡ Some w
+    ensures counted { (base : Ground) (v : Valuation) (g : EventGraph) (s : State) (clk : ℕ) (so_far : SoFar) → Meets base v → Agrees v g s clk so_far
+        → (e : Expression) → TruthsWhereAsked g s clk e → (guard : CaseTree) (n : Noted) (w : Valued) → valued base g so_far e guard n ≡ Some w
         → Fine v n → tree_value v guard ≡ pos 1 → Outcome v (value_of g s clk e) w }
-    ensures idle { (ground : Ground) (v : Valuation) (g : EventGraph) (s : State) (clk : ℕ) (so_far : SoFar) → Meets ground v → Agrees v g s clk so_far
-        → (e : Expression) → TruthsWhereAsked g s clk e → (guard : CaseTree) (n : Noted) (w : Valued) → valued ground g so_far e guard n ≡ Some w
+    ensures idle { (base : Ground) (v : Valuation) (g : EventGraph) (s : State) (clk : ℕ) (so_far : SoFar) → Meets base v → Agrees v g s clk so_far
+        → (e : Expression) → TruthsWhereAsked g s clk e → (guard : CaseTree) (n : Noted) (w : Valued) → valued base g so_far e guard n ≡ Some w
         → Fine v n → tree_value v guard ≡ pos 0 → Fine v w.noted }
-    ensures failed { (ground : Ground) (v : Valuation) (g : EventGraph) (s : State) (clk : ℕ) (so_far : SoFar) → Meets ground v → Agrees v g s clk so_far
-        → (e : Expression) → TruthsWhereAsked g s clk e → (guard : CaseTree) (n : Noted) (w : Valued) → valued ground g so_far e guard n ≡ Some w
+    ensures failed { (base : Ground) (v : Valuation) (g : EventGraph) (s : State) (clk : ℕ) (so_far : SoFar) → Meets base v → Agrees v g s clk so_far
+        → (e : Expression) → TruthsWhereAsked g s clk e → (guard : CaseTree) (n : Noted) (w : Valued) → valued base g so_far e guard n ≡ Some w
         → (f : FaultKind) → FailedIn v f n → FailedIn v f w.noted }
 {}

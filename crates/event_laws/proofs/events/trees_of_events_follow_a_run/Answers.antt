@@ -12,4 +12,4 @@ returns-clause-occurs c = λ g seed vertex n s taken.
     ∙ sym (regrouped (receive g vertex.parameters n.entry.values s) (λ received. done_after_receiving g seed vertex n.entry.time received taken) (λ d. Ok (configuration_after n.entry.time n.others d)))
 
 pub returns-clause-follows : goal.returns-clause-follows
-returns-clause-follows c = λ v g clk ground seed taken meets vertex fits received inside m follows e made words. event-follows v g clk ground seed taken meets vertex fits received inside m follows e made words
+returns-clause-follows c = λ v g clk base seed taken meets vertex fits received inside m follows e made words. event-follows v g clk base seed taken meets vertex fits received inside m follows e made words
