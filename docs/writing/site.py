@@ -20,9 +20,12 @@ ELSEWHERE = ("http://", "https://", "mailto:", "#")
 NAVIGATION = {
     "Use": (
         "docs/README",
-        "docs/use/README",
         "docs/use/tutorial",
         "docs/use/install",
+        "docs/use/model-text",
+        "docs/use/patterns",
+        "docs/use/distributions",
+        "docs/use/experiments",
         "docs/use/*",
     ),
     "Trust": ("docs/trust/README", "docs/trust/for-sceptics", "docs/trust/*", "SECURITY"),
