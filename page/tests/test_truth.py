@@ -217,12 +217,16 @@ def test_conflicts_and_the_description_are_of_the_text_or_marked(page: Browser) 
         page.click(f"#tab-{tab}")
         page.until(f"document.querySelector('.{tab}-tab :is(.panel, section)')", 60)
         page.until(f"!document.querySelector('.{tab}-tab.is-stale')")
-        edit(page, "var GAP : 1..6", "var GAP : 1..7")
-        assert page.js(
-            f"return document.querySelector('.{tab}-tab').classList.contains('is-stale')"
+        # In one go, since the answer to the new text comes within a moment.
+        is_marked = page.js(
+            "sigma.store.edit(sigma.store.doc.text.replace('GAP : 1..6', 'GAP : 1..7'), 'Typing');"
+            "return document.querySelector(values[0]).classList.contains('is-stale')",
+            f".{tab}-tab",
         )
+        assert is_marked
         page.until(f"!document.querySelector('.{tab}-tab.is-stale')", 60)
         page.js("sigma.store.undo()")
+        page.until(ACCEPTED)
 
 
 def test_the_report_marks_what_is_out_of_date(page: Browser) -> None:
