@@ -7,7 +7,7 @@ import { BadLink, link_of, model_in_link, MOST_TEXT, packed, unpacked } from "..
 import { doc_of, drafts_of, file_name } from "../src/shell/kept";
 import { clock_of, seconds_of } from "../src/run/clock";
 import { read_notes, title_of_item, unit_of_item, write_notes } from "../src/text/notes";
-import { apply_edits, read_places, rename, write_places } from "../src/text/edits";
+import { apply_edits, make_first, move_edge, read_places, remove_edge, remove_event, remove_table, remove_variable, rename, write_places } from "../src/text/edits";
 import { BadDistribution, mean_of, rows_as_text, rows_of_text, table_of } from "../src/text/distributions";
 import { free_streams, TEMPLATES, with_template } from "../src/text/templates";
 import { meetings } from "../src/reduce/meetings";
@@ -123,4 +123,10 @@ test("the model in words is shown event by event", async () => {
   const { out } = await engine.call({ words: ["describe"], input: example("bank") }), groups = groups_of(out);
   assert.deepEqual(groups.map(each => each.title), ["The model BANK", "OPEN", "ARRIVE", "SERVE", "LEAVE", "CLOSE"]);
   assert.equal(groups.flatMap(each => each.lines).length, out.trimEnd().split("\n").length - 6);
+});
+
+test("what is gone already is removed by no edit", () => {
+  const text = "model M;\nvar A : 0..9 = 0;\nvertex ONE {\n}\nend\n";
+  for (const edits of [remove_variable(text, "B"), remove_event(text, "TWO"), remove_table(text, "T"), remove_edge(text, "ONE", 0), remove_edge(text, "TWO", 0), move_edge(text, "TWO", 0, 1), make_first(text, "TWO")]) assert.deepEqual(edits, []);
+  assert.equal(apply_edits(text, remove_variable(text, "A")), "model M;\nvertex ONE {\n}\nend\n");
 });

@@ -26,7 +26,7 @@ export function group_views(groups: readonly Seen[], k: number): GroupView[] {
     const { name, members, box, pending, lit, selected } = group, width = Math.max(18, box.width * k), height = Math.max(14, box.height * k), x = box.x * k - width / 2, y = box.y * k - height / 2;
     const rows = Math.max(0, Math.floor((height - 10) / LINE)), waits = pending ? `${pending} pending` : "", texts: GroupView["texts"] = [];
     const others = members.slice(1), free = rows - 1 - (waits ? 1 : 0), names = free >= others.length ? others : others.slice(0, Math.max(0, free - 1)), rest = others.length - names.length;
-    const say = (words: string, kind: "title" | "waits" | "says"): void => { texts.push({ words: cut(words, width - 14, kind === "title" ? BOLD : PLAIN), x: x + 8, y: y + 16 + texts.length * LINE, kind }); };
+    const say = (words: string, kind: "title" | "waits" | "says"): void => { texts.push({ words: cut(words, width - 8, kind === "title" ? BOLD : PLAIN), x: x + 5, y: y + 16 + texts.length * LINE, kind }); };
     if (width >= 34 && rows > 0) {
       say(lit || name, "title");
       if (waits && rows > 1) say(waits, "waits");
