@@ -39,10 +39,13 @@ def test_cases(path: Path, call: Program) -> None:
 
 
 def test_all_commands_have_cases() -> None:
-    """Both folders have a file for each command, and one for words that ask for no job."""
+    """Both folders have a file for each command, and one for words that ask for no job.
+
+    No cases are drawn for `compare` yet: most pairs of models are `unknown` to it.
+    """
     commands = "certify check conflicts describe fuse narrow print reduce replicate resume run"
     names = {*commands.split(), "save", "trial", "uses", "words"}
-    assert {path.name for path in FILES if path.parent.name == "asked"} == names
+    assert {path.name for path in FILES if path.parent.name == "asked"} == names | {"compare"}
     assert {path.name for path in FILES if path.parent.name == "drawn"} == names
 
 
