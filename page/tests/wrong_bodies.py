@@ -86,8 +86,8 @@ WRONG = (
     Wrong(
         "keeps_the_file_name_past_open",
         STORE,
-        "this.future.push(this.step);\n    this.put(before);",
-        "this.future.push(this.step);\n    this.put({ ...before, doc: { ...before.doc, file: this.doc.file } });",
+        "return step.doc.id === id ? { ...step, doc: { ...step.doc, file, saved, settings, versions } } : step;",
+        "return { ...step, doc: { ...step.doc, file, saved, settings, versions } };",
         "store",
     ),
     Wrong(
