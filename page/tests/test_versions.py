@@ -51,7 +51,10 @@ def test_times_are_those_of_a_clock(page: Browser) -> None:
         "unit.value = 'minute'; unit.dispatchEvent(new Event('change'));"
     )
     page.until("!document.querySelector('[data-setting=opens]').disabled")
-    page.write("[data-setting=opens]", "9:00", "Tab")
+    page.js(
+        "const opens = document.querySelector('[data-setting=opens]');"
+        "opens.value = '9:00'; opens.dispatchEvent(new Event('change'));"
+    )
     page.until("sigma.store.doc.text.includes('# tick minute from 9:00')")
     page.until("document.querySelector('.run-status').textContent.includes('17:')")
     page.until("document.querySelector('.axis-title')?.textContent === 'clock'")
