@@ -149,8 +149,20 @@ def test_a_changed_program_is_named(checkout: SmallCheckout) -> None:
     assert checkout.call("reduce").status == 127
 
 
-def test_a_later_call_sums_nothing(checkout: SmallCheckout) -> None:
+def give_old_find(checkout: SmallCheckout) -> None:
+    """Put a `find` into PATH that takes no names from a file, as older ones."""
+    real = shutil.which("find")
+    old = checkout.bin / "find"
+    old.unlink()
+    old.write_text(f'#!/bin/sh\n[ "$1" != -files0-from ] || exit 1\nexec {real} "$@"\n')
+    old.chmod(0o755)
+
+
+@pytest.mark.parametrize("old_find", [False, True], ids=["this find", "older find"])
+def test_a_later_call_sums_nothing(checkout: SmallCheckout, old_find: bool) -> None:
     """While no file changes, the last choice holds."""
+    if old_find:
+        give_old_find(checkout)
     checkout.give_dist()
     wait_for_clock()
     answers(checkout)
@@ -187,9 +199,12 @@ def change_dist(checkout: SmallCheckout) -> None:
         file.write(b"more")
 
 
+@pytest.mark.parametrize("old_find", [False, True], ids=["this find", "older find"])
 @pytest.mark.parametrize("change", [change_in_place, add_file, put_other_file, change_dist])
-def test_each_change_is_seen(checkout: SmallCheckout, change: object) -> None:
+def test_each_change_is_seen(checkout: SmallCheckout, change: object, old_find: bool) -> None:
     """After a change of the sources or of dist/, the program of before answers no more."""
+    if old_find:
+        give_old_find(checkout)
     checkout.give_dist()
     wait_for_clock()
     answers(checkout)
