@@ -10,7 +10,7 @@ ghost use Rattle.conflict_report.specs.Inner.ReasonsFound.{NotedAt, NotedBefore,
 
 use crate::holders::Holders;
 use crate::priorities::holders_of_priorities;
-use crate::touched::TouchedNumbers;
+use crate::touched_numbers::TouchedNumbers;
 use crate::vertex_set::VertexSet;
 use model_core::{Model, Reasons};
 use sig_base::NoMemory;

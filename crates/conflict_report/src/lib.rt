@@ -11,7 +11,7 @@ mod pairs;
 mod priorities;
 mod sharing;
 mod text;
-mod touched;
+mod touched_numbers;
 mod two_vertices;
 mod vertex_set;
 

@@ -1,4 +1,4 @@
-//! The games of a tournament.
+//! The games of the tournament between heaps: the vertex whose first event is due earlier wins.
 
 ghost use Rattle.std.specs.Prelude.{◌≡◌, ◌≢◌, ℕ, ◌+◌, ◌/◌, ◌^◌, ◌*◌, ◌<◌, ◌≤◌, None, length, slice_index, slice_index_or};
 ghost use Rattle.event_heap.specs.Inner.Games.{winner_of, IsPlayed, IsReplayed};

@@ -1,4 +1,4 @@
-//! The tournament before any vertex has a key.
+//! The tournament between heaps as it begins: no vertex has an event yet.
 
 ghost use Rattle.std.specs.Prelude.{◌≡◌, replicate, None, IfOk};
 ghost use Rattle.event_heap.specs.Inner.Games.{IsPlayed};

@@ -1,4 +1,4 @@
-//! The pending list of a run in heaps.
+//! The pending list of a run, kept in heaps and a tournament: its calls are those of the trait `Pending`.
 
 ghost use Rattle.std.specs.Prelude.{◌≡◌, ◌≢◌, ℕ, ◌+◌, ◌*◌, ◌^◌, ◌<◌, ◌≤◌, length, [], ◌∷◌, ◌++◌, Some, None, IsSome, true, false, IfOk, slice_set, slice_index_or};
 ghost use Rattle.std.specs.Option.{option_map};

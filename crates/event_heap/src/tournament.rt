@@ -1,4 +1,4 @@
-//! The tournament tree.
+//! The tournament tree over the heaps: its winner is the vertex whose first event is due next.
 
 ghost use Rattle.std.specs.Prelude.{◌≡◌, ◌≢◌, ℕ, ◌+◌, ◌≤◌, ◌<◌, ◌^◌, length, slice_set, slice_index_or, replicate, None, IfOk};
 ghost use Rattle.event_heap.specs.Inner.Top.{IsTop};

@@ -8,7 +8,7 @@ mod marks;
 mod moving_up;
 mod place_successors;
 mod renumbering;
-mod staying;
+mod staying_places;
 
 pub use entailing::entailed;
 pub use law::marks_are_of_entailed_places;
@@ -16,4 +16,4 @@ pub use marks::{is_marked, unmarked};
 pub use moving_up::{keep, keep_staying};
 pub use place_successors::PlaceSuccessors;
 pub use renumbering::{NewPlaces, renumber_vertices, renumber_watch};
-pub use staying::Staying;
+pub use staying_places::Staying;

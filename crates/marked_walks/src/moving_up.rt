@@ -3,7 +3,7 @@
 ghost use Rattle.std.specs.Prelude.{◌≡◌, ◌++◌, ◌+◌, ◌<◌, ◌≤◌, [], length, cond, take, drop};
 ghost use Rattle.model_core.specs.Rules.MarkedPlaces.{marked_of};
 
-use crate::staying::Staying;
+use crate::staying_places::Staying;
 
 /// Moves the item at a place up to the end of those that were kept, if it stays, and says how many are kept then.
 pub fn keep<T>(items: &mut Vec<T>, stays: bool, kept: usize, place: usize) -> usize

@@ -5,7 +5,7 @@ ghost use Rattle.model_core.specs.Rules.MarkedPlaces.{rank};
 ghost use Rattle.model_core.specs.Rules.Drop.{edge_renumbered, vertex_renumbered, watched_renumbered};
 ghost use Rattle.model_core.specs.Code.Views.{vertex_of, edge_of, watched_of};
 
-use crate::staying::Staying;
+use crate::staying_places::Staying;
 use model_core::{Edge, Vertex, Watch};
 
 /// New places for old ones.

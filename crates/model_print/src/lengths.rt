@@ -9,11 +9,11 @@ ghost use Rattle.model_core.specs.Rules.Prune.{pruned};
 ghost use Rattle.model_core.specs.Code.Views.{graph_of, expression_of, change_of, edge_of, vertex_of};
 
 use crate::expressions::put_expression;
-use crate::fused::put_model_fused;
+use crate::fused_model::put_model_fused;
 use crate::model::put_model;
+use crate::model_without_edge::put_model_without;
 use crate::pen::Count;
 use crate::vertices::{put_body, put_change, put_edge, put_set, put_vertex};
-use crate::without_edge::put_model_without;
 use model_core::{Change, Edge, Expr, Model, Vertex};
 
 /// How many bytes the canonical text of a model has, or 2^64 - 1 where it has more.

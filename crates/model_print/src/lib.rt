@@ -3,20 +3,20 @@
 
 mod declarations;
 mod expressions;
-mod fused;
+mod fused_model;
 mod lengths;
 mod model;
+mod model_without_edge;
 mod names;
 mod operators;
 mod pen;
-mod printed;
+mod text_in_memory;
 mod version_without;
 mod vertices;
-mod without_edge;
 
-pub use fused::standing_for;
+pub use fused_model::standing_for;
 pub use lengths::{
     body_length, change_length, edge_length, expr_length, fused_length, length_without_edge,
     printed_length, set_length, vertex_length,
 };
-pub use printed::{print, print_expr, put_expr};
+pub use text_in_memory::{print, print_expr, put_expr};

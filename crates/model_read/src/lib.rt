@@ -22,7 +22,7 @@ pub use openings::first_too_deep;
 pub use operators::{CONJUNCTIONS, Infix, LEVELS, next_level};
 pub use phrase::{Phrase, Repeated, many, packed, separated};
 pub use places::Places;
-pub use stop::{Stop, placed};
+pub use stop::{Stop, with_place};
 pub use text::{parse_front_pieces, parse_pieces, read_model_beginning};
 pub use token_calls::{parse, parse_front};
 pub use vertices::read_vertex_beginning;

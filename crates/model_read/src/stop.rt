@@ -44,7 +44,11 @@ impl From<NoMemory> for Stop {
 }
 
 /// What was read, or why not, with the place of the next token. The text has so many bytes.
-pub fn placed<T>(read: Result<T, Stop>, cursor: &Cursor<'_>, bytes: usize) -> Result<T, ParseError>
+pub fn with_place<T>(
+    read: Result<T, Stop>,
+    cursor: &Cursor<'_>,
+    bytes: usize,
+) -> Result<T, ParseError>
     ensures { (text : List ℕ) → bytes ≡ length text
         → result ≡ placed_at (wrong_place text cursor.now) read }
 {

@@ -18,7 +18,7 @@ use crate::cursor::Cursor;
 use crate::declarations::watch;
 use crate::openings::{first_too_deep, front_length};
 use crate::phrase::{at_least_one, many};
-use crate::stop::{Stop, placed};
+use crate::stop::{Stop, with_place};
 use model_core::{RawModel, RawNumber, Symbol, Word};
 use model_lex::{ParseError, Pieces, pieces_are_in_text};
 use sig_base::{HeldValue, List, OPENINGS_MAX};
@@ -139,7 +139,7 @@ pub fn parse_pieces(alloc: Global, pieces: &Pieces<'_>) -> Result<RawModel, Pars
     }
     let mut cursor = Cursor::new(pieces.text, list);
     let read = whole(alloc, &mut cursor);
-    placed(read, &cursor, pieces.text.len())
+    with_place(read, &cursor, pieces.text.len())
 }
 
 /// The model that the pieces from the place on begin with, and the place after its word `end`. A place is here the number
@@ -175,6 +175,6 @@ pub fn parse_front_pieces(
     let mut cursor = Cursor::new(pieces.text, some);
     let read = model(alloc, &mut cursor);
     let left = cursor.len();
-    let model = placed(read, &cursor, pieces.text.len())?;
+    let model = with_place(read, &cursor, pieces.text.len())?;
     Ok((model, pieces.list.len() - left))
 }

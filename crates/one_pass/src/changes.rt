@@ -19,7 +19,7 @@ ghost use Rattle.one_pass.specs.Inner.ReadRows.{ReadRow};
 ghost use Rattle.one_pass.specs.Inner.ReadTargets.{IsTarget, ReadTarget};
 ghost use Rattle.one_pass.specs.Inner.ReadSources.{IsSource, ReadSource};
 
-use crate::expressions::{Operand, bracketed, known};
+use crate::expressions::{Operand, bracketed, known_variable};
 use crate::not_read::NotRead;
 use crate::refusing::refuse_fault;
 use crate::values::values;
@@ -39,7 +39,7 @@ fn target(alloc: Global, cursor: &mut Cursor<'_>, names: &Names) -> Result<Typed
 {
     let name = cursor.spelling()?;
     let is_array = cursor.begins_symbol(Symbol::OpenBracket);
-    let var = known(names, is_array, name)?;
+    let var = known_variable(names, is_array, name)?;
     let index = if is_array {
         let mut index = Operand::unread();
         bracketed(alloc, cursor, names, &mut index)?;

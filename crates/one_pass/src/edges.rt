@@ -19,8 +19,8 @@ ghost use Rattle.model_core.specs.Static.VersionFaults.{delay_faults_version_1};
 ghost use Rattle.one_pass.specs.Inner.AllFaults.{all_delay_faults, all_edge_faults};
 ghost use Rattle.one_pass.specs.Inner.ReadParts.{ReadSure, ReadChecked};
 
-use crate::carried::carried;
 use crate::changes::source;
+use crate::destination::read_destination;
 use crate::not_read::NotRead;
 use crate::refusing::refuse_fault;
 use crate::values::value;
@@ -134,7 +134,7 @@ fn schedule(
         cursor.new (edge_of e)) }
 {
     cursor.word(Word::Schedule)?;
-    let carried = carried(alloc, cursor, names, taken)?;
+    let carried = read_destination(alloc, cursor, names, taken)?;
     let delay = HeldValue::of(after(alloc, cursor, names, is_two)?);
     let priority = priority(cursor)?;
     let condition = HeldValue::of(condition(alloc, cursor, names)?);
@@ -164,7 +164,7 @@ fn urgent(
         cursor.new (edge_of e)) }
 {
     cursor.word(Word::Urgent)?;
-    let carried = carried(alloc, cursor, names, taken)?;
+    let carried = read_destination(alloc, cursor, names, taken)?;
     let condition = HeldValue::of(condition(alloc, cursor, names)?);
     cursor.symbol(Symbol::Semicolon)?;
     Ok(Edge {

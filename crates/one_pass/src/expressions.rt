@@ -89,7 +89,7 @@ pub(crate) fn expect(wanted: Option<Kind>, operand: &Operand) -> Result<(), NotR
 /// The place and the kind of the scalar or the array of this name. Inlined with what it calls, since it is asked at each name:
 /// so no fault is written down where there is none, and what the name means is looked at where it lies.
 #[inline(always)]
-pub(crate) fn known(
+pub(crate) fn known_variable(
     names: &Names,
     is_array: bool,
     name: Spelling<'_>,
@@ -438,14 +438,14 @@ fn named(
 {
     let name = cursor.spelling()?;
     if !cursor.begins_symbol(Symbol::OpenBracket) {
-        let var = known(names, false, name)?;
+        let var = known_variable(names, false, name)?;
         *read = Operand {
             expr: Expr::Scalar(var.part),
             kind: var.kind,
         };
         return Ok(());
     }
-    let var = known(names, true, name)?;
+    let var = known_variable(names, true, name)?;
     bracketed(alloc, cursor, names, read)?;
     let index = Box::new(alloc, read.take())?;
     *read = Operand {

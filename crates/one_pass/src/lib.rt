@@ -3,8 +3,8 @@
 #![tactic(auto)]
 
 mod beginnings;
-mod carried;
 mod changes;
+mod destination;
 mod edges;
 mod endings;
 mod expressions;

@@ -1,4 +1,4 @@
-//! Giving up where some static rule is broken.
+//! Giving up the quick reading of a text if a static rule is broken.
 
 ghost use Rattle.std.specs.Prelude.{◌≡◌, ◌≢◌, None, OnOk, OnErr};
 
@@ -10,7 +10,7 @@ pub(crate) fn refuse_fault(fault: &FirstFault) -> Result<(), NotRead>
     ensures none_found { OnOk result (fault.now ≡ None) }
     ensures found { OnErr result (fault.now ≢ None) }
 {
-    match fault.found() {
+    match fault.first_fault() {
         None => Ok(()),
         Some(_) => Err(NotRead::Unsure),
     }

@@ -31,8 +31,8 @@ use model_lex::{Pieces, pieces_are_in_text};
 use model_read::{Cursor, first_too_deep, read_model_beginning};
 use sig_base::{List, OPENINGS_MAX};
 use sig_types::{
-    FirstFault, Names, check_lists, declared, is_version_two, items, report_long_text,
-    report_version, taken,
+    FirstFault, Names, check_lists, declared, is_version_two, items, parameter_kinds,
+    report_long_text, report_version,
 };
 use std::alloc::Global;
 
@@ -54,7 +54,7 @@ fn expected_vertices(
         (λ e. LeavesStuck e cursor.new
         (to_end (language_reader (at_least_one vertex_format) cursor.old))) }
 {
-    let taken = taken(alloc, names, expected)?;
+    let taken = parameter_kinds(alloc, names, expected)?;
     vertices(
         alloc,
         cursor,
@@ -196,7 +196,7 @@ fn with_few_openings(alloc: Global, pieces: &Pieces<'_>) -> Result<Model, OnePas
     let mut cursor = Cursor::from_place(pieces, 0);
     let mut fault = FirstFault::new();
     match whole(alloc, pieces, &mut cursor, &mut fault) {
-        Ok(model) => match fault.found() {
+        Ok(model) => match fault.first_fault() {
             None => Ok(model),
             Some(found) => Err(OnePassError::Fault {
                 kind: found.kind,

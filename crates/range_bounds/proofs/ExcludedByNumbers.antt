@@ -17,7 +17,7 @@ use Rattle.model_core.specs.Rules.Exclusive.{same_expression, is_comparison, lit
 use Rattle.model_core.specs.Rules.UrgentEdges.{is_urgent, each_pair, urgent_conditions}
 use Rattle.model_core.proofs.EachOne.{either_false}
 use Rattle.model_core.proofs.SameExpressions.{same_itself, true-same_expression}
-use Rattle.range_bounds.specs.declared.alike.Compared.{Compared}
+use Rattle.range_bounds.specs.declared.compared_alike.Compared.{Compared}
 use Rattle.range_bounds.specs.LiveEdges.{is_live, may_take_any_condition}
 use Rattle.range_bounds.specs.Inner.ComparedAlike.{live_conditions, comparison_with, compares_this, all_compare_this, never_both, AreCompared}
 

@@ -5,11 +5,11 @@ ghost use Rattle.std.specs.Prelude.{◌≡◌, ◌&&◌, ◌||◌, not, cond};
 ghost use Rattle.model_core.specs.Rules.BoundsTable.{operator_bounds, either_bounds, chosen_bounds};
 ghost use Rattle.model_core.specs.Code.Views.{operator_of};
 
-use crate::ends::both_quiet;
 use crate::number_rows::{
     difference_bounds, greatest_bounds, least_bounds, product_bounds, quotient_bounds,
     remainder_bounds, sum_bounds,
 };
+use crate::range_ends::both_quiet;
 use crate::truth_rows::{
     and_bounds, at_most_bounds, below_bounds, equal_bounds, opposite, or_bounds,
 };

@@ -7,7 +7,7 @@ ghost use Rattle.std.specs.Int.{int_min, int_max};
 ghost use Rattle.model_core.specs.Rules.BoundsOfParts.{rows_bounds, choice_bounds};
 ghost use Rattle.model_core.specs.Code.Views.{graph_of, choice_of, weighted_of};
 
-use crate::ends::number_bounds;
+use crate::range_ends::number_bounds;
 use model_core::{Bounds, Choice, Model};
 use sig_base::Row;
 

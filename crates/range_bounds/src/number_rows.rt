@@ -7,7 +7,7 @@ ghost use Rattle.std.specs.Int.{int_min, int_max};
 ghost use Rattle.model_core.specs.EventGraph.{Add, Subtract, Multiply, Least, Greatest};
 ghost use Rattle.model_core.specs.Rules.BoundsTable.{negative_bounds, operator_bounds, quotient_bounds, greatest_rest, remainder_bounds, has_zero};
 
-use crate::ends::{both_quiet, exact_bounds, has_zero, magnitude, number_bounds, of_four};
+use crate::range_ends::{both_quiet, exact_bounds, has_zero, magnitude, number_bounds, of_four};
 use model_core::Bounds;
 
 /// The bounds of `-a`, from those of `a`.

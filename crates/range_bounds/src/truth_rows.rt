@@ -5,7 +5,7 @@ ghost use Rattle.std.specs.Ordering.{int_eq};
 ghost use Rattle.model_core.specs.EventGraph.{And, Or};
 ghost use Rattle.model_core.specs.Rules.BoundsTable.{opposite, below_bounds, at_most_bounds, of_truth_value, equal_bounds, operator_bounds};
 
-use crate::ends::{both_quiet, truth_bounds};
+use crate::range_ends::{both_quiet, truth_bounds};
 use model_core::Bounds;
 
 /// The bounds of `not a`, from those of `a`.

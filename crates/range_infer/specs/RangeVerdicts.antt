@@ -36,7 +36,7 @@ pub data MayNotNarrow (g : EventGraph) (ranges : List VarRange) : ℕ → Type 0
   left : Fitting g ranges → (Inductive g ranges → ⊥) → MayNotNarrow g ranges 2
   too_long : Fitting g ranges → Inductive g ranges → TEXT_MAX < length (canonical (model_with_ranges g ranges)) → MayNotNarrow g ranges 3
 
--- want of memory says nothing of them
+-- running out of memory says nothing of them
 abbrev pub NarrowRefused : EventGraph → List VarRange → RuleError → Type 0
 NarrowRefused g ranges (errors.Refused condition) = MayNotNarrow g ranges condition
 NarrowRefused g ranges errors.NoMemory = Unit {0}

@@ -12,7 +12,7 @@ ghost use Rattle.range_infer.specs.Inner.RangeTests.{encloses_kept, first_after}
 
 use crate::collecting::incoming;
 use crate::fitting::are_fitting;
-use crate::keeping::kept_range;
+use crate::kept_range::kept_range;
 use crate::part_reads::all_parts_read;
 use crate::range_verdict::RangeVerdict;
 use model_core::{Incoming, Model, VarRange};

@@ -16,9 +16,9 @@ ghost use Rattle.range_infer.specs.Inner.Readers.{one_at, readers_in};
 ghost use Rattle.range_infer.specs.Inner.LookedAt.{assigned_seen, change_seen, edge_seen, vertex_seen, incoming_seen, vertex_part_seen, part_seen, TakesAgain};
 
 use crate::bounds_left::bounds_where;
-use crate::looking::{Look, looks_at, looks_at_one};
-use crate::moves::moved_ranges;
+use crate::moved_ranges::moved_ranges;
 use crate::part_reads::{EdgeReads, ValueReads, VertexReads, part_count};
+use crate::parts_looked_at::{Look, looks_at, looks_at_one};
 use crate::postfix_bounds::value_bounds;
 use crate::ranges_left::RangesLeft;
 use crate::readers::{PartPlace, are_few, readers_of_moved};

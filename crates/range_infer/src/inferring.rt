@@ -10,7 +10,7 @@ ghost use Rattle.range_infer.specs.Inner.Readers.{readers_in};
 
 use crate::collecting::{incoming, taken_by_moved_readers};
 use crate::law::rounds_end_with_inductive_ranges;
-use crate::moves::same_ranges;
+use crate::moved_ranges::same_ranges;
 use crate::part_reads::{VertexReads, all_parts_read};
 use crate::readers::{PartPlace, all_readers};
 use crate::rounds::{first_ranges, next_round};

@@ -11,7 +11,7 @@ ghost use Rattle.range_infer.specs.RangeVerdicts.{MayNarrow, NarrowRefused};
 
 use crate::checking::check_ranges;
 use crate::inferring::infer;
-use crate::keeping::declared_range;
+use crate::kept_range::declared_range;
 use crate::range_verdict::RangeVerdict;
 use model_core::{Model, RuleError, Var, VarRange};
 use model_print::printed_length;

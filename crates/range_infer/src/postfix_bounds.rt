@@ -34,7 +34,7 @@ fn next_operand(before: &mut Vec<Bounds>, last: Bounds, next: Bounds) -> Result<
 
 /// The bounds of an operator's result on the last two operands.
 #[inline(always)]
-fn operated(before: &mut Vec<Bounds>, op: Op, last: Bounds) -> Bounds
+fn bounds_of_result(before: &mut Vec<Bounds>, op: Op, last: Bounds) -> Bounds
     ensures { result ∷ reverse before.new.items ≡ operated op (last ∷ reverse before.old.items) }
 {
     match before.pop() {
@@ -44,7 +44,7 @@ fn operated(before: &mut Vec<Bounds>, op: Op, last: Bounds) -> Bounds
 }
 
 /// The bounds of what a test decides, of the last three operands.
-fn chosen(before: &mut Vec<Bounds>, last: Bounds) -> Bounds
+fn bounds_of_choice(before: &mut Vec<Bounds>, last: Bounds) -> Bounds
     ensures { result ∷ reverse before.new.items ≡ chosen (last ∷ reverse before.old.items) }
 {
     let Some(yes) = before.pop() else {
@@ -74,7 +74,7 @@ fn after_item(
             let second = variable_bounds(left, var, true);
             Ok(operator_bounds(op, &last, &second))
         }
-        PostfixItem::Operator(op) => Ok(operated(before, op, last)),
+        PostfixItem::Operator(op) => Ok(bounds_of_result(before, op, last)),
         PostfixItem::Variable(var) => next_operand(before, last, variable_bounds(left, var, true)),
         PostfixItem::Number(n) => next_operand(before, last, number_bounds(n, n, true)),
         PostfixItem::Truth(b) => next_operand(before, last, truth_bounds(!b, b, true)),
@@ -85,7 +85,7 @@ fn after_item(
         }
         PostfixItem::Negated => Ok(negative_bounds(&last)),
         PostfixItem::Opposite => Ok(opposite(&last)),
-        PostfixItem::Chosen => Ok(chosen(before, last)),
+        PostfixItem::Chosen => Ok(bounds_of_choice(before, last)),
         PostfixItem::Kept | PostfixItem::PutBack | PostfixItem::Left(..) => Ok(last),
     }
 }

@@ -11,7 +11,7 @@ ghost use Rattle.model_core.specs.Ranges.Inference.{hull, ends_moved, each_varia
 ghost use Rattle.range_infer.specs.Inner.GrownBy.{grown_by};
 
 use crate::fitting::is_fixed;
-use crate::keeping::{declared_range, kept_range};
+use crate::kept_range::{declared_range, kept_range};
 use model_core::{Incoming, Model, VarRange};
 use sig_base::NoMemory;
 use std::alloc::Global;

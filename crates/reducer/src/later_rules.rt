@@ -24,7 +24,7 @@ use edge_pruning::{
 use merge_rules::{
     KeptPairs, SecondVertex, merge_holding, merging_keeps_the_meaning, merging_takes_an_urgent_edge,
 };
-use model_core::{Application, Model, was_made};
+use model_core::{Application, Model, was_applied};
 use model_facts::{Progress, keep_after_drop};
 use reduction_cert::chains_keep_the_meaning;
 use sig_base::{List, NoMemory};
@@ -265,7 +265,7 @@ impl UnfinishedReduction {
         self.applications.push(Application::Slice {
             vars: List::from_vec(names),
         })?;
-        let made = was_made(slice(alloc, &mut self.model, &vars))?;
+        let made = was_applied(slice(alloc, &mut self.model, &vars))?;
         self.progress = Progress::begin(alloc, &self.model)?;
         self.pairs = KeptPairs::begin(alloc, &self.model)?;
         Ok(made)

@@ -20,7 +20,7 @@ use edge_pruning::{
     EdgeRule, drop_vertices, dropping_takes_no_notice_of_the_vertex, prune, settle,
 };
 use merge_rules::{SecondVertex, merge_measured};
-use model_core::{Application, Model, copy_model, same_model, was_made};
+use model_core::{Application, Model, copy_model, same_model, was_applied};
 use model_facts::{
     FactsOfModel, keep_after_drop, keep_after_prune, keep_after_settle, new_counts_count_nothing,
 };
@@ -289,7 +289,7 @@ fn apply_drop(
         return Ok(false);
     };
     keep_after_drop(model, facts, dropped.as_slice());
-    let made = was_made(drop_vertices(alloc, model, &dropped))?;
+    let made = was_applied(drop_vertices(alloc, model, &dropped))?;
     Ok(keep_facts_if_made(facts, made))
 }
 
@@ -316,7 +316,7 @@ fn apply_merge(
     let Some((vertex, target)) = two_vertices_named(vertices, vertex, target) else {
         return Ok(false);
     };
-    was_made(merge_measured(alloc, model, facts, counts, vertex, target, second))
+    was_applied(merge_measured(alloc, model, facts, counts, vertex, target, second))
 }
 
 /// Slices variables away, and says whether they could be.
@@ -329,5 +329,5 @@ fn apply_slice(alloc: Global, model: &mut Model, names: &[Name]) -> Result<bool,
     let Some(sliced) = all_named(alloc, &vars, names)? else {
         return Ok(false);
     };
-    was_made(slice(alloc, model, &sliced))
+    was_applied(slice(alloc, model, &sliced))
 }

@@ -12,7 +12,7 @@ ghost use Rattle.model_read.specs.ReadCalls.{Returned};
 
 use model_core::{Application, Word};
 use model_lex::{ParseError, Pieces};
-use model_read::{Cursor, Stop, placed};
+use model_read::{Cursor, Stop, with_place};
 use sig_base::{List, Name};
 use std::alloc::Global;
 
@@ -208,5 +208,5 @@ pub fn read_certificate_pieces(
 {
     let mut cursor = Cursor::from_place(pieces, from);
     let read = whole(alloc, &mut cursor);
-    placed(read, &cursor, pieces.text.len())
+    with_place(read, &cursor, pieces.text.len())
 }

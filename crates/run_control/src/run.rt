@@ -10,7 +10,7 @@ use crate::begin_error::BeginError;
 use crate::occurrence::occur;
 use crate::parts::Parts;
 use crate::plans::Plans;
-use crate::starts::{AllowedStarts, check_starts, schedule_first};
+use crate::starting_values::{AllowedStarts, check_starts, schedule_first};
 use crate::turn::Turn;
 use event_list::{Entry, First, Pending};
 use model_core::{Model as Graph, Vertex};
@@ -131,7 +131,7 @@ impl<'m, P: Pending> Run<'m, P> {
             time: 0,
             priority: 5,
             vertex: 0,
-            values: starts.carried(),
+            values: starts.carried_starts(),
         };
         schedule_first::<P, Brand>(&mut pending, &first, Blank::new(1));
         runs_stay_in_range();

@@ -3,12 +3,12 @@
 //! `proofs/`, proved once for all rules.
 #![tactic(auto)]
 
-mod going_on;
-mod left;
+mod changes_without_fault;
+mod runs_continued;
+mod runs_in_range;
 mod sameness;
-mod staying;
 
-pub use going_on::runs_go_on;
-pub use left::changes_leave_their_result;
+pub use changes_without_fault::changes_leave_their_result;
+pub use runs_continued::runs_go_on;
+pub use runs_in_range::runs_stay_in_range;
 pub use sameness::sameness_is_a_preorder;
-pub use staying::runs_stay_in_range;

@@ -1,4 +1,4 @@
-//! A run is saved.
+//! Saving: the snapshot of a run where it stands.
 
 ghost use Rattle.std.specs.Prelude.{◌≡◌, ◌<◌, length, IfOk, None};
 ghost use Rattle.std.specs.Option.{option_map};
@@ -37,7 +37,7 @@ fn all_taken(alloc: Global, streams: &Streams) -> Result<List<u64>, NoMemory>
 {
     let mut taken = Vec::with_capacity(alloc, 64)?;
     for stream in 0..64 {
-        taken.push(streams.taken(stream))?;
+        taken.push(streams.words_taken(stream))?;
     }
     Ok(List::from_vec(taken))
 }
@@ -102,7 +102,7 @@ where
         events: turns,
         taken: all_taken(alloc, &streams)?,
         values: all_cells(alloc, model, &state)?,
-        noted: again(alloc, tracer.noted())?,
+        noted: again(alloc, tracer.noted_values())?,
         pending: all_due::<P, Brand>(alloc, &mut pending, Blank::new(1))?,
     })
 }

@@ -5,7 +5,7 @@
 mod count;
 mod fault;
 mod filling;
-mod held;
+mod held_value;
 mod limits;
 mod list;
 mod memory_sink;
@@ -28,7 +28,7 @@ mod text;
 
 pub use fault::FaultKind;
 pub use filling::append;
-pub use held::HeldValue;
+pub use held_value::HeldValue;
 pub use limits::{
     ARRAY_CELLS_MAX, ARRAY_CELLS_MAX_VERSION_1, CELLS_MAX, CHANGES_MAX, DOCUMENT_MAX, EDGES_MAX,
     EVENTS_MAX, LITERAL_MAX, NAME_MAX, OPENINGS_MAX, PARAMETERS_MAX, PARAMETERS_MAX_VERSION_1,

@@ -1,4 +1,4 @@
-//! The two failures that come from outside: want of memory, and a failed read or write.
+//! The two failures that come from outside: no memory is left, or a read or write fails.
 
 use std::alloc::{AllocError, AllocFailed};
 use thiserror::Error;

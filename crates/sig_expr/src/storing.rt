@@ -15,7 +15,7 @@ use model_core::{Model, Var};
 use sig_base::FaultKind;
 
 /// The value that a variable keeps when a value is stored in it.
-fn kept(var: &Var, x: i64) -> Result<i64, FaultKind>
+fn kept_value(var: &Var, x: i64) -> Result<i64, FaultKind>
     ensures { result ≡ kept (variable_of var.now) x }
 {
     if var.lo <= x && x <= var.hi {
@@ -42,7 +42,7 @@ fn put_kept(
         ≡ store (graph_of model.now) (record { variable = var; index = index }, value) state.old }
     ensures fault { OnErr result (state.new ≡ state.old) }
 {
-    let kept = kept(&model.vars.as_slice()[var], value)?;
+    let kept = kept_value(&model.vars.as_slice()[var], value)?;
     state.put(var, index, kept);
     Ok(())
 }

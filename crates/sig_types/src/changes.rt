@@ -20,7 +20,7 @@ use crate::first_fault::FirstFault;
 use crate::kinds::{Typed, kinds_differ};
 use crate::names::Names;
 use crate::numbers::{bounded, literal, report_empty_range, report_wide_range};
-use crate::placed::report_too_many;
+use crate::part_places::report_too_many;
 use crate::uses::{table, variable};
 use model_core::{
     Change, Choice, Expr, Kind, RawChange, RawChoice, RawExpr, RawNumber, RawTarget, StaticKind,
@@ -186,7 +186,7 @@ fn set_all(
 }
 
 /// What the targets of a `set` take.
-fn stored(
+fn set_change(
     alloc: Global,
     names: &Names,
     targets: &[RawTarget],
@@ -228,7 +228,7 @@ fn set(
     let differs = targets.len() != raws.len();
     fault.note(differs, StaticKind::ValueCount, at);
     report_too_many(TARGETS_MAX, targets, fault);
-    let change = stored(alloc, names, targets, raws, fault)?;
+    let change = set_change(alloc, names, targets, raws, fault)?;
     Ok(change)
 }
 

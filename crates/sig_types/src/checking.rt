@@ -23,11 +23,11 @@ use crate::edges::items;
 use crate::error::StaticError;
 use crate::first_fault::FirstFault;
 use crate::names::Names;
-use crate::placed::report_too_many;
+use crate::part_places::report_too_many;
 use crate::tables::check_tables;
 use crate::variables::check_variables;
 use crate::versions::report_version;
-use crate::vertices::{taken, vertices};
+use crate::vertices::{parameter_kinds, vertices};
 use crate::watch::watch_list;
 use model_core::{Kind, Model, RawModel, RawName, RawTable, RawVar, StaticKind, Var, Watch};
 use model_print::printed_length;
@@ -158,7 +158,7 @@ fn names_and_kinds(
         (fault.new ≡ earliest_fault fault.old (faults_of_declared (written_model raw.now))) }
 {
     let names = declared(alloc, raw, fault)?;
-    let taken = taken(alloc, &names, raw.vertices.as_slice())?;
+    let taken = parameter_kinds(alloc, &names, raw.vertices.as_slice())?;
     Ok(NamesAndKinds { names, taken })
 }
 
@@ -186,7 +186,7 @@ pub fn report_long_text(model: &Model, end_at: usize, fault: &mut FirstFault)
         (model_too_long TEXT_MAX (canonical (graph_of model.now)) end_at) }
     ensures some { (f : StaticFault) → fault.old ≡ Some f → fault.new ≡ fault.old }
 {
-    if fault.found().is_none() {
+    if fault.first_fault().is_none() {
         fault.note(is_too_long(model), StaticKind::ModelTooLong, end_at);
     }
 }
@@ -221,7 +221,7 @@ pub fn check(alloc: Global, raw: RawModel) -> Result<Model, StaticError>
 {
     let mut fault = FirstFault::new();
     let model = model_with_faults(alloc, raw, &mut fault)?;
-    match fault.found() {
+    match fault.first_fault() {
         None => Ok(model),
         Some(found) => Err(StaticError::Fault {
             kind: found.kind,

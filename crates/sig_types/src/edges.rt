@@ -175,7 +175,7 @@ fn taken_at(taken: &[List<Option<Kind>>], target: Option<usize>) -> Option<&List
 }
 
 /// The values that an edge carries to the vertex at a place.
-fn carried(
+fn carried_values(
     alloc: Global,
     names: &Names,
     taken: &[List<Option<Kind>>],
@@ -215,7 +215,7 @@ pub fn edge(
         (λ d. numbering.edge d (written_edge raw.now)) (edge_of e)) }
 {
     let target = vertex(names, &raw.target, fault);
-    let values = carried(alloc, names, taken, target, raw, fault)?;
+    let values = carried_values(alloc, names, taken, target, raw, fault)?;
     let form = form(alloc, names, &raw.form, fault)?;
     let condition = condition(alloc, names, &raw.condition, fault)?;
     Ok(Edge {

@@ -56,7 +56,7 @@ impl FirstFault {
     }
 
     /// The first fault, where one was found.
-    pub fn found(&self) -> Option<Fault>
+    pub fn first_fault(&self) -> Option<Fault>
         ensures { self.now ≡ option_map (λ f. record { at = f.at; kind = f.kind }) result }
     {
         self.fault

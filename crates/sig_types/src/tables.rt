@@ -15,7 +15,7 @@ ghost use Rattle.static_laws.specs.Checked.{CheckedPlain};
 use crate::declaring::report_long_name;
 use crate::first_fault::FirstFault;
 use crate::numbers::{certain_number, literal};
-use crate::placed::report_too_many;
+use crate::part_places::report_too_many;
 use model_core::{RawNumber, RawRow, RawTable, StaticKind};
 use sig_base::{List, NoMemory, ROWS_MAX, Row, Table, WEIGHTS_MAX};
 use std::alloc::Global;

@@ -49,7 +49,7 @@ fn is_fit(role: Role, meaning: Meaning) -> bool
 
 /// What the name that these bytes spell means, at this place and used so.
 #[inline(always)]
-fn used(
+fn meaning_of_use(
     names: &Names,
     role: Role,
     name: &[u8],
@@ -115,7 +115,7 @@ pub fn spelled_variable(
         ≡ kind_in_role (variable_role is_array) (meaning_of names.now name.now) }
 {
     let role = if is_array { Role::Array } else { Role::Scalar };
-    let meaning = used(names, role, name, at, fault);
+    let meaning = meaning_of_use(names, role, name, at, fault);
     variable_meant(meaning, is_array)
 }
 
@@ -159,7 +159,7 @@ pub(crate) fn table(names: &Names, raw: &RawName, fault: &mut FirstFault) -> usi
         (use_faults (meaning_of names.now) AsTable (written_name raw.now))
         (λ d. declared_place raw.now.name d.tables) result }
 {
-    let meaning = used(names, Role::Table, raw.name.as_slice(), raw.at, fault);
+    let meaning = meaning_of_use(names, Role::Table, raw.name.as_slice(), raw.at, fault);
     table_meant(meaning)
 }
 
@@ -185,7 +185,7 @@ pub fn spelled_vertex(
         (λ d. option_map (λ k. Some k) (declared_place name.now d.vertices)) result }
     ensures means { result ≡ vertex_meant (meaning_of names.now name.now) }
 {
-    let meaning = used(names, Role::Vertex, name, at, fault);
+    let meaning = meaning_of_use(names, Role::Vertex, name, at, fault);
     place_of_vertex(meaning)
 }
 
@@ -220,6 +220,6 @@ pub(crate) fn watched(names: &Names, raw: &RawName, fault: &mut FirstFault) -> W
         (use_faults (meaning_of names.now) AsWatched (written_name raw.now))
         (λ d. numbering.watched d (written_name raw.now)) (watched_of result) }
 {
-    let meaning = used(names, Role::Watched, raw.name.as_slice(), raw.at, fault);
+    let meaning = meaning_of_use(names, Role::Watched, raw.name.as_slice(), raw.at, fault);
     watch_meant(meaning)
 }

@@ -14,7 +14,7 @@ ghost use Rattle.model_core.specs.Static.VersionFaults.{is_version_two, number_f
 use crate::edges::items;
 use crate::first_fault::FirstFault;
 use crate::numbers::{certain_number, lies_between};
-use crate::placed::report_too_many;
+use crate::part_places::report_too_many;
 use model_core::{
     RawChange, RawDelay, RawEdge, RawEdgeForm, RawModel, RawNumber, RawVar, RawVertex, StaticKind,
 };

@@ -15,7 +15,7 @@ use crate::declaring::report_long_name;
 use crate::edges::{edges, items};
 use crate::first_fault::FirstFault;
 use crate::names::Names;
-use crate::placed::report_too_many;
+use crate::part_places::report_too_many;
 use crate::repeats::report_repeats;
 use crate::uses::{kind_of_scalar, variable};
 use model_core::{Change, Edge, Kind, RawName, RawVertex, Vertex};
@@ -35,7 +35,7 @@ fn kinds_of(alloc: Global, names: &Names, raws: &[RawName]) -> Result<List<Optio
 }
 
 /// The kinds of the parameters of each vertex.
-pub fn taken(
+pub fn parameter_kinds(
     alloc: Global,
     names: &Names,
     raws: &[RawVertex],

@@ -32,7 +32,7 @@ type Case = (
     u64,
 );
 
-/// Each status but that of want of memory, and of a snapshot that is too long.
+/// Each status but that of running out of memory, and of a snapshot that is too long.
 const CASES: [Case; 10] = [
     ("reduce", b"", SOUND, Status::Refused, b"", 1),
     ("grow", ONE, SOUND, Status::Usage, b"", 1),

@@ -11,7 +11,7 @@ ghost use Rattle.model_read.specs.NamesPlaced.{HasPlaces, names_of_vertices};
 ghost use Rattle.snapshot_text.specs.Inner.Judging.{if_good, Judged};
 ghost use Rattle.snapshot_text.specs.Inner.RawParts.{written_carried, written_pending};
 
-use crate::carried::carried_value;
+use crate::carried_value::carried_value;
 use crate::numbers::at_most;
 use crate::parts::{RawCarried, RawPending, written_values};
 use crate::snapshot_error::SnapshotError;

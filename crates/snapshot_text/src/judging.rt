@@ -10,7 +10,7 @@ ghost use Rattle.snapshot_text.specs.Inner.Judging.{Judged, later_parts, later_s
 ghost use Rattle.snapshot_text.specs.Inner.RawParts.{written_snapshot};
 
 use crate::events::pending_of;
-use crate::noted::noted_of;
+use crate::last_noted_values::noted_of;
 use crate::numbers::{at_most, seed_of};
 use crate::parts::RawSnapshot;
 use crate::snapshot::Snapshot;

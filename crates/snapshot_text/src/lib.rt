@@ -1,11 +1,11 @@
 //! The text of saved runs: what is kept of a run that is stopped, printed and read.
 #![tactic(auto)]
 
-mod carried;
+mod carried_value;
 mod events;
 mod judging;
+mod last_noted_values;
 mod laws;
-mod noted;
 mod numbers;
 mod parts;
 mod printing;

@@ -102,7 +102,7 @@ fn noted_values(alloc: Global, cursor: &mut Cursor<'_>) -> Result<RawNoted, Stop
 
 /// Reads the values that were noted last, where they are written.
 #[tactic(auto, unfolding(model_core::specs::Text::SnapshotGrammar::noted_format))]
-fn noted(alloc: Global, cursor: &mut Cursor<'_>) -> Result<Option<RawNoted>, Stop>
+fn noted_if_written(alloc: Global, cursor: &mut Cursor<'_>) -> Result<Option<RawNoted>, Stop>
     ensures { Returned (option_map written_noted) result cursor.new
         (language_reader (maybe noted_format) cursor.old) }
 {
@@ -222,7 +222,7 @@ fn snapshot<'t>(alloc: Global, cursor: &mut Cursor<'t>) -> Result<RawSnapshot<'t
     let head = head(cursor)?;
     let streams = many(alloc, cursor)?;
     let values = many(alloc, cursor)?;
-    let noted = noted(alloc, cursor)?;
+    let noted = noted_if_written(alloc, cursor)?;
     let pending = many(alloc, cursor)?;
     let end_at = cursor.word(Word::End)?;
     Ok(RawSnapshot {

@@ -94,7 +94,7 @@ pub(crate) fn first_sums(alloc: Global, model: &Model) -> Result<Vec<Sum>, NoMem
 }
 
 /// The sum with the value of a state, noted at a time, whose last value was noted at another.
-fn taken(sum: Sum, model: &Model, state: &State, since: u64, time: u64) -> Sum
+fn with_noted_value(sum: Sum, model: &Model, state: &State, since: u64, time: u64) -> Sum
     requires later { since ≤ time }
     requires small { IsSmall since sum.item }
     ensures taken { result
@@ -111,7 +111,7 @@ fn taken(sum: Sum, model: &Model, state: &State, since: u64, time: u64) -> Sum
 }
 
 /// The sum with an event of the vertex at a place of the watch list.
-fn counted(sum: Sum, place: usize) -> Sum
+fn with_event(sum: Sum, place: usize) -> Sum
     ensures counted { result ≡ sum_on place sum }
     ensures small { (ticks : ℕ) → IsSmall ticks sum.item → IsSmall ticks result.item }
 {
@@ -135,7 +135,7 @@ pub(crate) fn take_values(sums: &mut Vec<Sum>, model: &Model, state: &State, sin
     ensures small { All (λ s. IsSmall time s.item) sums.new.items }
 {
     for i in 0..sums.len() {
-        sums[i] = taken(sums[i], model, state, since, time);
+        sums[i] = with_noted_value(sums[i], model, state, since, time);
     }
 }
 
@@ -146,7 +146,7 @@ pub(crate) fn count_at(sums: &mut Vec<Sum>, place: usize)
         → All (λ s. IsSmall ticks s.item) sums.new.items }
 {
     for i in 0..sums.len() {
-        sums[i] = counted(sums[i], place);
+        sums[i] = with_event(sums[i], place);
     }
 }
 

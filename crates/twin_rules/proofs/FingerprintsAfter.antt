@@ -13,7 +13,7 @@ use Rattle.model_core.proofs.EachOne.{every-fails}
 use Rattle.model_core.proofs.PlacesChanged.{apart-turned}
 use Rattle.model_core.proofs.PlacesTakenOff.{get-without}
 use Rattle.model_core.proofs.FusedPlaces.{fused-get, standing-itself}
-use Rattle.twin_rules.specs.declared.print.VertexFingerprint.{VertexFingerprint}
+use Rattle.twin_rules.specs.declared.vertex_fingerprint.VertexFingerprint.{VertexFingerprint}
 use Rattle.twin_rules.specs.Inner.ComparedPairs.{has_changed, place_before, some_leads}
 use Rattle.twin_rules.specs.Inner.Fingerprints.{half, vertex_fingerprint, targets_fingerprint}
 use Rattle.twin_rules.specs.Inner.MarkedVertices.{is_barred}

@@ -7,7 +7,7 @@ use Rattle.std.proofs.lemmas.Option.{slice_get_within}
 use Rattle.sig_base.specs.declared.limits.TheConstants.{VERTICES_MAX}
 use Rattle.model_core.specs.EventGraph.{EventGraph}
 use Rattle.model_core.specs.Run.Step.{vertex_at}
-use Rattle.twin_rules.specs.declared.print.VertexFingerprint.{VertexFingerprint}
+use Rattle.twin_rules.specs.declared.vertex_fingerprint.VertexFingerprint.{VertexFingerprint}
 use Rattle.twin_rules.specs.Inner.ComparedPairs.{has_changed}
 use Rattle.twin_rules.specs.Inner.Fingerprints.{half}
 use Rattle.twin_rules.specs.Inner.KeptFingerprints.{number_in, targets_fingerprint_at, IsFingerprintBut, AreFingerprints, AreFingerprintsBut, AreFingerprintsOfAll, IsRenewed}

@@ -16,7 +16,7 @@ use Rattle.model_core.proofs.BothTrue.{and_first, and_second}
 use Rattle.model_core.proofs.Among.{either_true, first_true, second_true}
 use Rattle.model_core.proofs.EachOne.{every-fails, either_false}
 use Rattle.bound_laws.proofs.Soundness.NumberRows.{not_true}
-use Rattle.twin_rules.specs.declared.asked.PairSearch.{PairSearch}
+use Rattle.twin_rules.specs.declared.pair_search.PairSearch.{PairSearch}
 use Rattle.twin_rules.specs.Inner.ComparedPairs.{are_alike, is_before_pair, has_changed, NoneAlike, place_before, some_leads}
 use Rattle.twin_rules.proofs.AlikeVertices.{AreAlike, conditions-alike, changes_decided, edges_decided}
 use Rattle.twin_rules.proofs.StillApart.{NoneLeads, alike-before}

@@ -8,7 +8,7 @@ use Rattle.model_core.specs.Rules.Drop.{edge_renumbered}
 use Rattle.model_core.specs.Rules.Merge.{leads_to}
 use Rattle.model_core.specs.Rules.Fuse.{standing_for}
 use Rattle.model_core.proofs.EachOne.{either_false}
-use Rattle.twin_rules.specs.declared.print.VertexFingerprint.{VertexFingerprint}
+use Rattle.twin_rules.specs.declared.vertex_fingerprint.VertexFingerprint.{VertexFingerprint}
 use Rattle.twin_rules.specs.Inner.ComparedPairs.{are_alike, some_leads}
 use Rattle.twin_rules.specs.Inner.Fingerprints.{half, list_fingerprint, change_fingerprint, edge_fingerprint, vertex_fingerprint}
 use Rattle.twin_rules.specs.Inner.KeptFingerprints.{number_in, targets_fingerprint_at, AreFingerprints}

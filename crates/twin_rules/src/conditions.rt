@@ -1,4 +1,4 @@
-//! The conditions of fuse.
+//! The conditions of fuse, and the first of them that two vertices fail.
 
 ghost use Rattle.std.specs.Prelude.{◌≡◌, ◌<◌, true, None, take, length};
 ghost use Rattle.model_core.specs.Rules.Conditions.{first_failed};
@@ -8,9 +8,9 @@ ghost use Rattle.twin_rules.specs.Inner.KeptFingerprints.{AreFingerprints};
 ghost use Rattle.twin_rules.specs.Inner.MarkedVertices.{is_barred};
 ghost use Rattle.model_core.specs.Code.Views.{graph_of};
 
-use crate::prints::FingerprintTable;
+use crate::fingerprint_table::FingerprintTable;
 use crate::same_doing::{have_same_edges, have_same_events};
-use crate::untouched::{are_uncancelled, are_unwatched, can_be_cancelled};
+use crate::unwatched_uncancelled::{are_uncancelled, are_unwatched, can_be_cancelled};
 use model_core::{Model, is_watched};
 use model_print::fused_length;
 use sig_base::TEXT_MAX;

@@ -7,10 +7,10 @@ ghost use Rattle.twin_rules.specs.Inner.ComparedPairs.{are_alike, SkipsUnchanged
 ghost use Rattle.twin_rules.specs.Inner.KeptFingerprints.{AreFingerprints};
 ghost use Rattle.twin_rules.specs.Inner.KeptRows.{IsRow};
 
-use crate::asked::PairSearch;
 use crate::conditions::{are_alike, is_within_limits};
-use crate::prints::FingerprintTable;
-use crate::row::{Row, next_candidate};
+use crate::fingerprint_table::FingerprintTable;
+use crate::later_candidates::{Row, next_candidate};
+use crate::pair_search::PairSearch;
 use model_core::Model;
 
 /// Whether two vertices may be fused. `none_alike` stays true if it is known that they are alike only if they may.

@@ -9,7 +9,7 @@ ghost use Rattle.twin_rules.specs.Inner.ComparedPairs.{place_before};
 ghost use Rattle.twin_rules.specs.Inner.LedTo.{MarksTargets};
 ghost use Rattle.twin_rules.specs.Inner.MarkedVertices.{has_mark, marks_at, one_marks, is_barred};
 
-use crate::asked::place_before;
+use crate::pair_search::place_before;
 use model_core::{Edge, Model, Vertex, Watch};
 use sig_base::VERTICES_MAX;
 

@@ -1,5 +1,5 @@
-//! What is needed since something may fault there: a target or a parameter whose store isn't quiet. That is asked only of
-//! variables that aren't marked, since bounds are dear.
+//! The variables that are needed because something may fault: a target or a parameter whose store isn't quiet. That is asked
+//! only of variables that aren't marked, since bounds are dear.
 
 ghost use Rattle.std.specs.Prelude.{◌≡◌, ℕ, ◌++◌, map, zip, OnOk};
 ghost use Rattle.std.specs.List.{flat_map};

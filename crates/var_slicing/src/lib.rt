@@ -1,15 +1,15 @@
 //! Slice: which variables are needed, and the model without the others.
 #![tactic(auto)]
 
-mod beside;
 mod delays;
+mod dropping_variables;
 mod faults;
 mod law;
-mod leaving;
 mod linking;
 mod marking;
 mod needs;
 mod new_numbers;
+mod paired_lists;
 mod reads_beside;
 mod slicing;
 mod streams;

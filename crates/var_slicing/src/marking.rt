@@ -18,7 +18,7 @@ use sig_base::{List, NoMemory};
 use std::alloc::Global;
 
 /// For each of so many variables whether it is one of these.
-fn marked(alloc: Global, count: usize, vars: &[usize]) -> Result<Vec<bool>, NoMemory>
+fn marks_of(alloc: Global, count: usize, vars: &[usize]) -> Result<Vec<bool>, NoMemory>
     ensures { IfOk result (λ marks. marks.items ≡ entailed_marks count vars.now []) }
 {
     let next = lists_by_place(alloc, count, &[])?;
@@ -30,7 +30,7 @@ fn all_needs(alloc: Global, model: &Model) -> Result<Needs, NoMemory>
     ensures { IfOk result (λ needs. collected_of needs ≡ all_needs (graph_of model.now)) }
 {
     let mut needs = Needs::at_once(alloc, model)?;
-    let marks = marked(alloc, model.vars.len(), needs.first.as_slice())?;
+    let marks = marks_of(alloc, model.vars.len(), needs.first.as_slice())?;
     needs.add_parts(model, marks.as_slice())?;
     Ok(needs)
 }
@@ -78,7 +78,7 @@ fn unwatched(alloc: Global, model: &Model) -> Result<List<usize>, NoMemory>
 {
     let mut watched = Vec::new(alloc);
     add_watched(&mut watched, model.watch.as_slice())?;
-    let marks = marked(alloc, model.vars.len(), watched.as_slice())?;
+    let marks = marks_of(alloc, model.vars.len(), watched.as_slice())?;
     unmarked(alloc, marks.as_slice())
 }
 

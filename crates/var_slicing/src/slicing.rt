@@ -6,7 +6,7 @@ ghost use Rattle.model_core.specs.Rules.RefusedCondition.{NamesCondition};
 ghost use Rattle.model_core.specs.Rules.Slice.{slice_conditions, sliced};
 ghost use Rattle.model_core.specs.Code.Views.{graph_of};
 
-use crate::leaving::keep_and_renumber;
+use crate::dropping_variables::keep_and_renumber;
 use crate::marking::needed;
 use marked_walks::{Staying, unmarked};
 use model_core::{Model, RuleError};

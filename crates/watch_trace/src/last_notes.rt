@@ -131,7 +131,7 @@ impl<'m> LastNotes<'m> {
     }
 
     /// The values of the last `at` note: `None` where nothing is noted.
-    pub fn noted(&self) -> Option<&[i64]>
+    pub fn noted_values(&self) -> Option<&[i64]>
         ensures { option_map (λ values. values.now) result ≡ option_map in_one_list self.now.noted }
     {
         if !self.noted {

@@ -74,10 +74,10 @@ impl<'m> Tracer<'m> {
     }
 
     /// The values of the last `at` note, of all watched cells in order: `None` where nothing is noted.
-    pub fn noted(&self) -> Option<&[i64]>
+    pub fn noted_values(&self) -> Option<&[i64]>
         ensures { option_map (λ values. values.now) result ≡ option_map in_one_list self.now.noted }
     {
-        self.last_notes.noted()
+        self.last_notes.noted_values()
     }
 
     /// Takes a value for each watched cell, in order, as those of the last `at` note.

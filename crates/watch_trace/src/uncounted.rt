@@ -5,8 +5,8 @@ ghost use Rattle.watch_trace.specs.Inner.CanFollow.{CanFollow};
 ghost use Rattle.watch_trace.specs.Inner.MadeMoves.{RanToOutcome};
 
 use crate::last_notes::LastNotes;
-use crate::moves::run_to_outcome;
 use crate::note_taker::NoteTaker;
+use crate::noted_moves::run_to_outcome;
 use crate::outcome::Outcome;
 use event_list::Pending;
 use run_control::Run;

@@ -8,7 +8,7 @@ use Rattle.model_core.specs.Rules.BoundsTable.{fits}
 use Rattle.model_core.specs.Rules.Exclusive.{same_expression, literal_number, Comparison, comparison_of, some_meets_both}
 use Rattle.model_core.specs.Code.Views.{operator_of}
 use Rattle.range_bounds.specs.LiveEdges.{is_live}
-use Rattle.range_bounds.specs.declared.alike.Compared.{Compared}
+use Rattle.range_bounds.specs.declared.compared_alike.Compared.{Compared}
 
 -- the conditions of those edges that are live
 abbrev pub live_conditions : EventGraph → List EventEdge → List Expression

@@ -8,7 +8,7 @@ use Rattle.model_core.specs.Rules.Conditions.{first_failed}
 use Rattle.model_core.specs.Rules.Merge.{leads_to}
 use Rattle.model_core.specs.Rules.Fuse.{same_changes, same_edges_for, fuse_conditions}
 use Rattle.twin_rules.specs.Inner.MarkedVertices.{is_barred}
-use Rattle.twin_rules.specs.declared.asked.PairSearch.{PairSearch}
+use Rattle.twin_rules.specs.declared.pair_search.PairSearch.{PairSearch}
 
 -- the two vertices meet all conditions but that on the limits
 abbrev pub are_alike : EventGraph → ℕ → ℕ → Bool

@@ -4,7 +4,7 @@ use Rattle.std.specs.Option.{option_map_or}
 use Rattle.sig_base.specs.declared.limits.TheConstants.{VERTICES_MAX}
 use Rattle.model_core.specs.EventGraph.{EventGraph}
 use Rattle.model_core.specs.Run.Step.{vertex_at}
-use Rattle.twin_rules.specs.declared.print.VertexFingerprint.{VertexFingerprint}
+use Rattle.twin_rules.specs.declared.vertex_fingerprint.VertexFingerprint.{VertexFingerprint}
 use Rattle.twin_rules.specs.Inner.ComparedPairs.{has_changed}
 use Rattle.twin_rules.specs.Inner.Fingerprints.{half, vertex_fingerprint, targets_fingerprint}
 use Rattle.twin_rules.specs.Inner.MarkedVertices.{is_barred}

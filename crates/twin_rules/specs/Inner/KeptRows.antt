@@ -1,8 +1,8 @@
 -- One vertex beside another one, compared by what is kept of both.
 use Rattle.std.specs.Prelude.{◌≡◌, ℕ, Bool, false, not, ◌&&◌, ◌||◌, ◌==◌, List, slice_get}
 use Rattle.model_core.specs.EventGraph.{EventGraph}
-use Rattle.twin_rules.specs.declared.print.VertexFingerprint.{VertexFingerprint}
-use Rattle.twin_rules.specs.declared.row.Row.{Row}
+use Rattle.twin_rules.specs.declared.vertex_fingerprint.VertexFingerprint.{VertexFingerprint}
+use Rattle.twin_rules.specs.declared.later_candidates.Row.{Row}
 use Rattle.twin_rules.specs.Inner.ComparedPairs.{some_leads}
 use Rattle.twin_rules.specs.Inner.MarkedVertices.{has_mark}
 

@@ -19,9 +19,9 @@ returns c =
     let tokens = pieces_lexemes c.args.pieces.now in
     let are : c.new-cursor.result ≡ tokens = c.new-cursor.ensures ∙ ap (map (piece_of text)) c.as_slice-list.ensures in
     let none = sym (rw c.as_slice-list.ensures at (c.first_too_deep.ensures text)) ∙ c.in_default.is in
-    let returned = placed-names written_model text c.whole-read.result c.whole-read.new.cursor (text_read tokens) c.placed.result (c.placed.ensures text refl) (rw are at c.whole-read.ensures) in
+    let returned = placed-names written_model text c.whole-read.result c.whole-read.new.cursor (text_read tokens) c.with_place.result (c.with_place.ensures text refl) (rw are at c.whole-read.ensures) in
     record {
-      ok = whole-ok text tokens c.whole-read.new.cursor OPENINGS_MAX c.placed.result returned (none-is_few OPENINGS_MAX tokens none);
-      unexpected = λ at e. (none, whole-unexpected text tokens c.whole-read.new.cursor c.placed.result at returned e);
-      too_deep = λ at e. absurd (never_deep text tokens c.whole-read.new.cursor c.placed.result at returned e);
+      ok = whole-ok text tokens c.whole-read.new.cursor OPENINGS_MAX c.with_place.result returned (none-is_few OPENINGS_MAX tokens none);
+      unexpected = λ at e. (none, whole-unexpected text tokens c.whole-read.new.cursor c.with_place.result at returned e);
+      too_deep = λ at e. absurd (never_deep text tokens c.whole-read.new.cursor c.with_place.result at returned e);
     }

@@ -18,7 +18,7 @@ returns-in-None-clause-ok c =
       written = read.written;
       spelled = whole-is_spelled (pieces_lexemes c.args.pieces.now) read.written c.whole.new.cursor (rw from at read.read);
       few_openings = none-is_few OPENINGS_MAX (pieces_lexemes c.args.pieces.now) c.requires;
-      accepted = read.decided.accepted (c.found.ensures ∙ ap (option_map (λ (f : Fault). record { at = f.at; kind = f.kind })) c.in-None.is);
+      accepted = read.decided.accepted (c.first_fault.ensures ∙ ap (option_map (λ (f : Fault). record { at = f.at; kind = f.kind })) c.in-None.is);
     }
 
 pub returns-in-Some-clause-refused : goal.returns-in-Some-clause-refused
@@ -30,7 +30,7 @@ returns-in-Some-clause-refused c =
       spelled = whole-is_spelled (pieces_lexemes c.args.pieces.now) read.written c.whole.new.cursor (rw from at read.read);
       few_openings = none-is_few OPENINGS_MAX (pieces_lexemes c.args.pieces.now) c.requires;
       is_first = (found_is_first_fault read.written (record { at = c.in-Some.found.at; kind = c.in-Some.found.kind })).0
-          (sym read.decided.is_first ∙ c.found.ensures ∙ ap (option_map (λ (f : Fault). record { at = f.at; kind = f.kind })) c.in-Some.is);
+          (sym read.decided.is_first ∙ c.first_fault.ensures ∙ ap (option_map (λ (f : Fault). record { at = f.at; kind = f.kind })) c.in-Some.is);
     }
 
 pub returns-in-Err-Unexpected-clause-refused : goal.returns-in-Err-Unexpected-clause-refused

@@ -2,7 +2,7 @@
 use Rattle.std.proofs.Common.{◌∙◌, List, map, ap}
 use Rattle.model_core.specs.Rules.UrgentEdges.{each_pair}
 use Rattle.model_core.specs.Code.Views.{graph_of, edge_of}
-use Rattle.range_bounds.specs.declared.alike.Compared.{Compared}
+use Rattle.range_bounds.specs.declared.compared_alike.Compared.{Compared}
 use Rattle.range_bounds.specs.Inner.ComparedAlike.{never_both}
 use Rattle.range_bounds.proofs.ExcludedByNumbers.{never_both-urgent}
 use Rattle.range_bounds.proofs.urgency.at_most_one_is_taken.Goals as goal

@@ -19,7 +19,7 @@ returns-clause-made c =
     let named : vertices_named g c.args.names.now ≡ Some vs = sym (c.in_ok-dropped.ensures ∙ all_by_table _ _ _ c.requires.listed) ∙ c.in-Some.is in
     let answered : unless_failed failed (dropped g vs) ≡ cond c.in_ok-made.made (Some h) None
     = subst (λ (answer : Result Bool NoMemory). IfOk answer (λ made. unless_failed failed (dropped g vs) ≡ cond made (Some h) None)) c.in_ok-made.was
-    (answer-result (dropped g vs) h failed c.drop_vertices.result c.drop_vertices.ensures.done c.drop_vertices.ensures.refused c.was_made.result c.was_made.ensures.made c.was_made.ensures.refused) in
+    (answer-result (dropped g vs) h failed c.drop_vertices.result c.drop_vertices.ensures.done c.drop_vertices.ensures.refused c.was_applied.result c.was_applied.ensures.made c.was_applied.ensures.refused) in
     drop_named g c.args.names.now vs named ∙ answered ∙ ap (λ made. cond made (Some h) None) (sym c.keep_facts_if_made.ensures.is)
 
 pub returns-clause-facts : goal.returns-clause-facts
@@ -31,7 +31,7 @@ returns-clause-facts c =
     let answered : failed ≡ None → FactsAreRight (dropped g vs) c.keep_after_drop.new.facts = subst (λ (vs : List ℕ). first_failed (drop_conditions g vs) ≡ None → FactsAreRight (dropped g vs) c.keep_after_drop.new.facts) c.as_slice.ensures c.keep_after_drop.ensures.facts in
     facts_kept (dropped g vs) h failed c.in_ok-made.made c.keep_after_drop.new.facts c.keep_facts_if_made.new.facts
     (λ is.
-    let ok = c.was_made.ensures.made (c.in_ok-made.was ∙ ap Ok is) in (
+    let ok = c.was_applied.ensures.made (c.in_ok-made.was ∙ ap Ok is) in (
       made-none_failed (dropped g vs) h failed c.drop_vertices.result c.drop_vertices.ensures.done c.drop_vertices.ensures.refused ok,
       made-is_result (dropped g vs) h failed c.drop_vertices.result c.drop_vertices.ensures.done c.drop_vertices.ensures.refused ok,
     ))

@@ -13,4 +13,4 @@ returns-clause-made c =
     let g = graph_of c.args.model.now in
     let named : two_vertices_named g c.args.vertex.now c.args.target.now ≡ Some (c.in-Some.vertex, c.in-Some.target) = (let is = c.in-Some.ensures g c.requires.listed in search rules) in
     merge-answer c.args.second g c.args.vertex.now c.args.target.now c.in-Some.vertex c.in-Some.target (graph_of c.merge_measured.new.model) named
-    c.merge_measured.result c.merge_measured.ensures.done c.merge_measured.ensures.refused c.was_made.result c.was_made.ensures.made c.was_made.ensures.refused
+    c.merge_measured.result c.merge_measured.ensures.done c.merge_measured.ensures.refused c.was_applied.result c.was_applied.ensures.made c.was_applied.ensures.refused

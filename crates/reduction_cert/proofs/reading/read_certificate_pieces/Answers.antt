@@ -17,7 +17,7 @@ returns c =
     let left = c.whole-read.new.cursor in
     let are : c.from_place-cursor.result ≡ tokens = c.from_place-cursor.ensures in
     let read : Returned (map application_of) c.whole-read.result left (and_next whole_read (language_reader certificate_format tokens)) = rw are at c.whole-read.ensures in
-    let placed : c.placed.result ≡ placed_at (wrong_place text left) c.whole-read.result = c.placed.ensures text refl in
+    let placed : c.with_place.result ≡ placed_at (wrong_place text left) c.whole-read.result = c.with_place.ensures text refl in
     record {
       ok = rw placed (certificate-ok tokens left (wrong_place text left) c.whole-read.result read);
       unexpected = λ at e. certificate-unexpected text tokens left c.whole-read.result at read (sym placed ∙ e);

@@ -8,8 +8,8 @@ use Rattle.sig_types.proofs.checking.check.Goals as goal
 
 pub returns-in-None-clause-accepted : goal.returns-in-None-clause-accepted
 returns-in-None-clause-accepted c =
-    is_accepted (written_model c.args.raw) (graph_of c.in_ok-model.model) c.in_ok-model.ensures.numbered (sym c.in_ok-model.ensures.earliest ∙ c.found.ensures ∙ ap (option_map _) c.in-None.is)
+    is_accepted (written_model c.args.raw) (graph_of c.in_ok-model.model) c.in_ok-model.ensures.numbered (sym c.in_ok-model.ensures.earliest ∙ c.first_fault.ensures ∙ ap (option_map _) c.in-None.is)
 
 pub returns-in-Some-clause-refused : goal.returns-in-Some-clause-refused
 returns-in-Some-clause-refused c =
-    λ kind at is. is_first_fault (written_model c.args.raw) c.in-Some.found kind at (sym c.in_ok-model.ensures.earliest ∙ c.found.ensures ∙ ap (option_map _) c.in-Some.is) is
+    λ kind at is. is_first_fault (written_model c.args.raw) c.in-Some.found kind at (sym c.in_ok-model.ensures.earliest ∙ c.first_fault.ensures ∙ ap (option_map _) c.in-Some.is) is

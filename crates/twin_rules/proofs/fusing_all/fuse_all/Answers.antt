@@ -3,7 +3,7 @@ use Rattle.std.proofs.Common.{◌∙◌, sym, subst, List}
 use Rattle.model_core.specs.EventGraph.{EventGraph}
 use Rattle.model_core.specs.Rules.Fuse.{fused}
 use Rattle.model_core.specs.Code.Views.{graph_of}
-use Rattle.twin_rules.specs.declared.print.VertexFingerprint.{VertexFingerprint}
+use Rattle.twin_rules.specs.declared.vertex_fingerprint.VertexFingerprint.{VertexFingerprint}
 use Rattle.twin_rules.specs.Inner.ComparedPairs.{NoneAlike, NoneAlikeBefore}
 use Rattle.twin_rules.specs.Inner.KeptFingerprints.{AreFingerprintsBut}
 use Rattle.twin_rules.specs.Inner.LedTo.{MarksTargets}

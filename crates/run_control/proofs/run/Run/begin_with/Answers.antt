@@ -13,7 +13,7 @@ invariant_of-result g c =
     let model = sym c.model-model.ensures.model in
     let possible = subst (λ (m : Model). PossibleModel (graph_of m)) model c.requires.possible in
     let none = c.in_ok-reserve.ensures.entries ∙ c.requires.empty in
-    let one = c.schedule_first.ensures.entries ∙ ap (λ (xs : List Entry). xs ++ record { time = 0; priority = 5; vertex = 0; values = c.carried.result.items } ∷ []) none in
+    let one = c.schedule_first.ensures.entries ∙ ap (λ (xs : List Entry). xs ++ record { time = 0; priority = 5; vertex = 0; values = c.carried_starts.result.items } ∷ []) none in
     record {
       possible = possible;
       inside = rw c.in_ok-state.ensures (c.runs_stay_in_range.ensures.begins (graph_of c.model-model.result.now) possible.initial);
