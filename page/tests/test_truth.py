@@ -137,6 +137,43 @@ def test_the_focus_stays(page: Browser) -> None:
     assert page.js(focused) == "event:ARRIVE/name"
 
 
+def test_a_field_keeps_what_is_typed_while_all_is_drawn_again(page: Browser) -> None:
+    """A name that is half typed, a limit beside the charts, and a field whose neighbour goes."""
+    page.click("#tab-experiments")
+    page.write("[aria-label='Name of the design']", "Two")
+    page.js("sigma.store.tell('designs')")
+    page.keys(" tellers", "Enter")
+    page.until("sigma.store.doc.designs[0].name === 'Two tellers'")
+    page.js("sigma.store.set({ settings: { ...sigma.store.doc.settings, runs: '50' } })")
+    page.click(RUN)
+    page.until("sigma.experiments.outcomes.length && !sigma.experiments.busy()", 90)
+    page.write("[aria-label=Limit]", "2", "Tab")
+    page.until("document.querySelector('.results th:nth-child(2)')")
+    page.until(
+        "[...document.querySelectorAll('.results th')].some(each => each.textContent === 'at most 2')"
+    )
+    assert page.js("return document.querySelector('[aria-label=Limit]').value") == "2"
+    assert page.js("return document.activeElement !== document.body")
+    bank = text(page)
+    page.js("sigma.open_example('emergency')")
+    page.until("document.querySelector('.experiments-tab [data-setting=start]')")
+    page.click(".experiments-tab [data-setting=warmup]")
+    page.js("sigma.store.edit(values[0], 'Typing')", bank)
+    page.until("!document.querySelector('.experiments-tab [data-setting=start]')")
+    assert page.js("return document.activeElement.dataset.setting") == "warmup"
+
+
+def test_a_title_keeps_its_blanks_while_it_is_typed(page: Browser) -> None:
+    """The text has no blank at the end of a title; the field keeps the one after which more is typed."""
+    page.js("sigma.app.pick(null)")
+    page.write('[data-shown="QUEUE/title"]', "customers ")
+    page.until("sigma.store.doc.text.includes('# shown QUEUE: customers')")
+    page.until(ACCEPTED)
+    time.sleep(0.3)
+    page.keys("waiting")
+    page.until("sigma.store.doc.text.includes('# shown QUEUE: customers waiting')")
+
+
 def test_a_view_keeps_the_run(page: Browser) -> None:
     """How the graph is turned is no part of the model."""
     page.click(RUN)

@@ -2,6 +2,8 @@
 
 from __future__ import annotations
 
+import time
+
 from conftest import wait_for_model
 from drive.browser import Browser
 from test_truth import ACCEPTED, edit, text
@@ -46,15 +48,14 @@ def test_times_are_those_of_a_clock(page: Browser) -> None:
     page.click(RUN)
     page.until("sigma.run.result", 60)
     page.click(".run-tab .settings-fold summary")
-    page.js(
-        "const unit = document.querySelector('[data-setting=unit]');"
-        "unit.value = 'minute'; unit.dispatchEvent(new Event('change'));"
-    )
-    page.until("!document.querySelector('[data-setting=opens]').disabled")
-    page.js(
-        "const opens = document.querySelector('[data-setting=opens]');"
-        "opens.value = '9:00'; opens.dispatchEvent(new Event('change'));"
-    )
+    page.js("document.querySelector('[data-setting=unit]').focus()")
+    page.keys("Down", "Down")
+    page.until("sigma.store.doc.text.includes('# tick minute')")
+    page.keys("Tab", "9:")
+    # The unit's text is accepted while one types, and the form is drawn again.
+    page.until(ACCEPTED)
+    time.sleep(0.3)
+    page.keys("00", "Tab")
     page.until("sigma.store.doc.text.includes('# tick minute from 9:00')")
     page.until("document.querySelector('.run-status').textContent.includes('17:')")
     page.until("document.querySelector('.axis-title')?.textContent === 'clock'")

@@ -30,6 +30,7 @@ async function add_design(app: App): Promise<void> {
 export function design_cards(app: App): HTMLElement[] {
   const { store } = app, { designs } = store, [base] = designs;
   const change = (id: number, part: Partial<Design>) => store.set({ designs: store.doc.designs.map(each => (each.id === id ? { ...each, ...part } : each)) });
+  const rename = (field: HTMLInputElement, { id, name }: Design) => { field.value = field.value.trim() || name; change(id, { name: field.value }); };
   const cards = designs.map((design, k) => {
     const is_active = design.id === store.doc.active, lines = k ? different_lines(base.text, design.text) : [];
     const what = k ? (lines.length ? h("ul", {}, ...lines.slice(0, 4).map(line => h("li", { className: line[0] === "+" ? "plus" : "minus" }, line.slice(1)))) : h("p", { className: "hint" }, "The same as the base so far. Change the model: it is changed here."))
@@ -37,7 +38,7 @@ export function design_cards(app: App): HTMLElement[] {
     return h("article", { className: `card design${is_active ? " active" : ""}`, "data-key": `design-${design.id}` },
       h("i", { className: `swatch series-${(k % 6) + 1}` }),
       h("div", { className: "card-head" },
-        h("input", { type: "text", className: "plain-name", value: design.name, "aria-label": "Name of the design", spellcheck: "false", onchange: (event: Event) => change(design.id, { name: (event.target as HTMLInputElement).value.trim() || design.name }) }),
+        h("input", { type: "text", className: "plain-name", value: design.name, "aria-label": "Name of the design", spellcheck: "false", onchange: (event: Event) => rename(event.target as HTMLInputElement, design) }),
         is_active ? h("span", { className: "pill" }, "editing") : h("button", { className: "small", onclick: () => store.activate(design.id) }, "Edit"),
         designs.length > 1 ? h("button", { className: "icon-button quiet", title: "Remove this design", "aria-label": `Remove ${design.name}`, onclick: () => store.remove_design(design.id) }, icon("close", 12)) : null),
       h("div", { className: k ? "diff" : "" }, what, lines.length > 4 ? h("small", {}, `… ${lines.length - 4} more`) : null),

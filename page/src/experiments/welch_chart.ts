@@ -10,7 +10,7 @@ import type { Course } from "./asking";
 import { moving } from "./statistics";
 
 export function welch_chart({ item, ticks, means }: Course, warmup: number, window: number, choose: (tick: number) => void): HTMLElement {
-  const place = h("div", { className: "sweep-chart", "data-own": "" }), smooth = moving(means, window);
+  const place = h("div", { className: "sweep-chart", "data-new": "" }), smooth = moving(means, window);
   sized(place, (width, height) => {
     const x = scaleLinear().domain([0, ticks[ticks.length - 1]]).range([56, width - 24]), y = scaleLinear().domain([Math.min(0, ...means), Math.max(...means, 1e-9)]).nice(5).range([height - 40, 12]);
     const svg = s("svg", { width, height, class: "plot", role: "img", "aria-label": `${item} over time, smoothed: it ends at ${short(smooth[smooth.length - 1])}` });

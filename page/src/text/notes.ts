@@ -19,7 +19,8 @@ export function read_notes(text: string): Notes {
   return last.notes;
 }
 
-const plain = (words: string): string => words.replace(/[[\]\n\r]/g, " ").trim();
+/** A title or a unit as the text has it. */
+export const plain = (words: string): string => words.replace(/[[\]\n\r]/g, " ").trim();
 /** The text with these notes in place of its own. A clock time without a unit says nothing, so it isn't kept. */
 export function write_notes(text: string, { unit, opens, items }: Notes): string {
   const lines = Object.entries(items).filter(([, { title, unit: its }]) => plain(title) || plain(its)).map(([name, { title, unit: its }]) => `# shown ${name}: ${plain(title)}${plain(its) ? ` [${plain(its)}]` : ""}`.trimEnd());

@@ -21,6 +21,7 @@ PREFERENCES = """user_pref("focusmanager.testmode", true);
 user_pref("datareporting.policy.dataSubmissionEnabled", false);
 user_pref("app.update.enabled", false);
 user_pref("browser.download.folderList", 2);
+user_pref("browser.download.alwaysOpenPanel", false);
 """
 
 
@@ -46,8 +47,9 @@ class Firefox(Browser):
         self._noted: list[dict[str, Any]] = []
         self._socket = self._connected(port)
         self._call("session.new", capabilities={})
-        tree = self._call("browsingContext.getTree")
-        self._context = tree["contexts"][0]["context"]
+        # The window that it begins with is never in front, so no field in it is told that it is left.
+        created = self._call("browsingContext.create", type="window")
+        self._context = created["context"]
         self._call("session.subscribe", events=["log.entryAdded"])
         self.size(width, height)
 
