@@ -14,10 +14,13 @@ from writing.parts import code, lowered, table, topic
 MODULE = re.compile(r"^pub mod (\w+)", re.M)
 
 
+WHOLE_PROMISE = Question("whole promise", "sigma", "reduced")
+
+
 @cache
-def right() -> Right:
+def right(question: Question = Question()) -> Right:
     """Find once what the clauses reach."""
-    return right_lists(repository_sources(), Question())
+    return right_lists(repository_sources(), question)
 
 
 def modules_of(folder: str, name: str) -> list[str]:
@@ -49,10 +52,11 @@ def about(module: str) -> str:
     return lowered(topic(" ".join(lines))).replace("|", r"\|")
 
 
-def modules(which: str) -> list[str]:
+def modules(which: str, question: Question = Question()) -> list[str]:
     """List the modules of one of the two lists, in reading order."""
     order = reading_order()
-    names = [name for (kind, name), lines in right().modules.items() if kind == which and lines]
+    found = right(question).modules
+    names = [name for (kind, name), lines in found.items() if kind == which and lines]
     return sorted(names, key=lambda name: (order.get(name, len(order)), name))
 
 
@@ -64,22 +68,33 @@ def believed(_page: Path) -> str:
     return f"{table(('module', 'lines', 'subject'), rows)}\n\n{together}"
 
 
-def besides(_page: Path) -> str:
-    """Write the further modules that single crates name, a row for each folder."""
+def by_folder(which: str, question: Question = Question()) -> str:
+    """Write a row for each folder: its modules, and their lines."""
     rows: dict[str, list[str]] = {}
-    for name in modules("besides"):
+    for name in modules(which, question):
         rows.setdefault(name.rpartition("/")[0], []).append(name)
-    lines = right().modules
+    lines = right(question).modules
     cells = [
         (
             ", ".join(
                 code(name if name == names[0] else name.rpartition("/")[2]) for name in names
             ),
-            ", ".join(lines["besides", name] for name in names),
+            ", ".join(lines[which, name] for name in names),
         )
         for names in rows.values()
     ]
     return table(("modules", "lines"), cells)
+
+
+def besides(_page: Path) -> str:
+    """Write the further modules that single crates name, a row for each folder."""
+    return by_folder("besides")
+
+
+def of_whole_promise(_page: Path) -> str:
+    """Write the modules that the promise of `reduce` reaches, a row for each folder."""
+    together = f"Together {right(WHOLE_PROMISE).together:,} lines."
+    return f"{by_folder('believed', WHOLE_PROMISE)}\n\n{together}"
 
 
 def of_code(_page: Path) -> str:

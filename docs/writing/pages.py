@@ -24,6 +24,7 @@ WRITERS: dict[str, Writer] = {
     "tests": tests.tests,
     "definitions": definitions.believed,
     "definitions of single crates": definitions.besides,
+    "definitions of the whole promise": definitions.of_whole_promise,
     "types of the code": definitions.of_code,
 }
 
