@@ -12,9 +12,9 @@ pub loop-i-preserved : goal.loop-i-preserved
 loop-i-preserved c =
     let within : c.loop-i.i < length c.args.sums.now.items = omega (arith, c.loop-i-test.true, c.len-i-end.ensures, c.args.sums.now.ok.0) in
     let f = sum_at (graph_of c.args.model.now) (watched_values (map watched_of c.args.model.now.watch) c.args.state.now) c.args.since c.args.time in (
-      written_more f c.args.sums.now.items c.loop-i.sums.items c.loop-i.i c.index.result.now c.taken.result within c.loop-i.invariant.0 c.index.ensures c.taken.ensures.taken,
-      All-written_more f c.args.sums.now.items c.loop-i.sums.items c.loop-i.i c.index.result.now c.taken.result within c.loop-i.invariant.0 c.index.ensures c.taken.ensures.taken
-          (λ (s : Sum). IsSmall c.args.time s.item) c.loop-i.invariant.1 c.taken.ensures.small,
+      written_more f c.args.sums.now.items c.loop-i.sums.items c.loop-i.i c.index.result.now c.with_noted_value.result within c.loop-i.invariant.0 c.index.ensures c.with_noted_value.ensures.taken,
+      All-written_more f c.args.sums.now.items c.loop-i.sums.items c.loop-i.i c.index.result.now c.with_noted_value.result within c.loop-i.invariant.0 c.index.ensures c.with_noted_value.ensures.taken
+          (λ (s : Sum). IsSmall c.args.time s.item) c.loop-i.invariant.1 c.with_noted_value.ensures.small,
     )
 
 pub returns-clause-small : goal.returns-clause-small
