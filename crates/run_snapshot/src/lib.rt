@@ -7,7 +7,7 @@ mod resumed_run;
 mod saving;
 
 pub use laws::{saved_runs_resume, stopped_runs_go_on};
-pub use resumed_run::{ResumedRun, resume};
+pub use resumed_run::{RunAndTracer, resume};
 pub use saving::save;
 pub use snapshot_text::{
     Snapshot, SnapshotError, print_snapshot, read_snapshot, read_snapshot_pieces, snapshot_fault,

@@ -22,7 +22,7 @@ use watch_trace::Tracer;
 
 /// A run that goes on, with its tracer.
 #[derive(Drop)]
-pub struct ResumedRun<'m, P: Pending> {
+pub struct RunAndTracer<'m, P: Pending> {
     pub run: Run<'m, P>,
     pub tracer: Tracer<'m>,
 }
@@ -53,7 +53,7 @@ pub fn resume<'m, P: Pending>(
     pending: P,
     snapshot: &Snapshot,
     room: usize,
-) -> Result<ResumedRun<'m, P>, NoMemory>
+) -> Result<RunAndTracer<'m, P>, NoMemory>
 where
     P: Drop,
     requires possible { PossibleModel (graph_of model.now) }
@@ -81,5 +81,5 @@ where
         snapshot.clock,
         snapshot.events,
     );
-    Ok(ResumedRun { run, tracer })
+    Ok(RunAndTracer { run, tracer })
 }
