@@ -57,6 +57,29 @@ def test_a_double_click_draws_there_and_the_paper_stands_still(page: Browser) ->
     assert {name: after[name] for name in boxes} == boxes
 
 
+def test_the_first_event_lies_where_one_pointed(page: Browser) -> None:
+    """On an empty paper too; a model that is opened then is shown whole."""
+    page.js("sigma.command('new')")
+    page.until("!sigma.store.doc.text && !sigma.app.canvas.scene.nodes.size")
+    page.size(1200, 800)
+    page.size(1400, 900)
+    page.until("document.querySelector('.minimap.none')")
+    place = paper(page, 0.2, 0.2)
+    page.click_at(place, 2)
+    page.until("document.querySelector('[data-part=\"event:EVENT1\"] .body')")
+    page.until(ACCEPTED)
+    x, y = page.middle(event("EVENT1"))
+    assert abs(x - place[0]) < 3 and abs(y - place[1]) < 3
+    page.js("sigma.open_example('clinic')")
+    page.until(f"{ACCEPTED} && sigma.store.shown.name !== 'MODEL' && !sigma.app.canvas.busy")
+    page.until("sigma.app.canvas.scene.nodes.size > 4")
+    at, box, room = page.js(
+        f"return [{AT}, sigma.app.canvas.scene.bounds(), sigma.app.canvas.view.room]"
+    )
+    assert abs(box["x"] * at[2] + at[0] - room["width"] / 2) < 1
+    assert abs(box["y"] * at[2] + at[1] - room["height"] / 2) < 1
+
+
 def test_stepping_moves_no_graph_that_is_seen_whole(page: Browser) -> None:
     """Only what can't be seen is brought into view."""
     page.click(RUN)

@@ -47,15 +47,17 @@ CHORDS = ("z", "z", "z", "y", "k", "m", "d", "c", "v", "a", "Enter", "f")
 LETTERS = "ne0/?s"
 SIZES = ((1400, 900), (1400, 900), (1000, 700), (390, 844))
 CHECKED_EVERY = 20
+MOST_FOUND = 12
 
 
 class Walk:
-    """A walk of one seed; `lately` is what was done last."""
+    """A walk of one seed; `lately` is what was done last, `found` what the browser complained of."""
 
     def __init__(self, page: Browser, seed: int) -> None:
         self.page = page
         self.chance = random.Random(seed)
         self.lately: deque[str] = deque(maxlen=CHECKED_EVERY)
+        self.found: list[str] = []
         page.js(AT_HOME)
         self.kinds: tuple[tuple[int, Callable[[], str]], ...] = (
             (34, self._press),
@@ -137,17 +139,21 @@ class Walk:
         return f"size {size}"
 
     def go(self, actions: int) -> None:
-        """Do so many things; fail at the first complaint of the browser."""
+        """Do so many things; fail at the end if the browser complained, or at once if it did often."""
         weights, kinds = zip(*self.kinds)
         for number in range(1, actions + 1):
             [act] = self.chance.choices(kinds, weights)
             self.lately.append(act())
             if number % CHECKED_EVERY == 0 or number == actions:
                 self._check(number)
+            if len(self.found) >= MOST_FOUND:
+                break
+        assert self.found == [], "\n\n".join(self.found)
 
     def _check(self, number: int) -> None:
         complaints = self.page.complaints()
         done = "\n".join(self.lately)
-        assert complaints == [], f"by action {number}: {complaints}, after\n{done}"
+        if complaints:
+            self.found.append(f"by action {number}: {complaints}, after\n{done}")
         alive = self.page.js("return typeof sigma.store.doc.text")
         assert alive == "string", f"by action {number} the page is gone, after\n{done}"

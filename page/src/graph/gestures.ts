@@ -29,6 +29,7 @@ export class Gestures {
       if (canvas.is_grouped) return;
       // What one draws on stands still.
       view.is_own = true;
+      canvas.stands = !canvas.scene.nodes.size;
       events.create?.(view.point(event as MouseEvent));
     });
     svg.addEventListener("contextmenu", event => {

@@ -7,6 +7,7 @@ export class Minimap {
   private readonly boxes = s("g");
   private readonly window = s("rect", { class: "window" });
   private of: Box = { x: 0, y: 0, width: 1, height: 1 };
+  private is_empty = true;
 
   constructor(go: (to: Point) => void) {
     this.element.append(this.boxes, this.window);
@@ -20,6 +21,7 @@ export class Minimap {
 
   draw(whole: Box, boxes: readonly Box[]): void {
     this.of = whole;
+    this.is_empty = false;
     const corner = (box: Box) => ({ x: box.x - box.width / 2, y: box.y - box.height / 2, width: box.width, height: box.height });
     const { x, y, width, height } = corner(whole);
     this.element.setAttribute("viewBox", `${x} ${y} ${Math.max(1, width)} ${Math.max(1, height)}`);
@@ -28,9 +30,13 @@ export class Minimap {
     this.window.setAttribute("stroke-width", String(Math.max(width, height) / 90));
   }
   look(seen: Box): void {
+    if (this.is_empty) return;
     const { of } = this, inside = (a: number, wide: number, b: number, wider: number): boolean => a - wide / 2 >= b - wider / 2 - 1 && a + wide / 2 <= b + wider / 2 + 1;
     this.element.classList.toggle("none", inside(of.x, of.width, seen.x, seen.width) && inside(of.y, of.height, seen.y, seen.height));
     for (const [name, value] of Object.entries({ x: seen.x - seen.width / 2, y: seen.y - seen.height / 2, width: seen.width, height: seen.height })) this.window.setAttribute(name, String(value));
   }
-  hide(): void { this.element.classList.add("none"); }
+  hide(): void {
+    this.is_empty = true;
+    this.element.classList.add("none");
+  }
 }

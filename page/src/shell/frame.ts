@@ -9,6 +9,7 @@ const PARTS = [["text", "Text", "text"], ["graph", "Graph", "graph"], ["form", "
 const NARROW = 760;
 /** Below this width the form is a drawer over the graph. */
 const DRAWER = 1100;
+const LEAST_GRAPH = 556;
 
 export function show_part(app: App, part: string, always = true): void {
   if (!always && innerWidth > (part === "form" ? DRAWER : NARROW)) return;
@@ -28,7 +29,12 @@ export function show_text(app: App, on: boolean, always = true): void {
 function split(app: App, kind: "left" | "right" | "dock"): HTMLElement {
   const names = { left: "text", right: "form", dock: "panel" }, is_flat = kind === "dock";
   const bar = h("div", { className: `split ${kind}`, role: "separator", tabIndex: 0, "aria-label": `Size of the ${names[kind]}`, "aria-orientation": is_flat ? "horizontal" : "vertical" });
-  const ends = (): [number, number] => (is_flat ? [120, innerHeight - 220] : [180, innerWidth * 0.5]);
+  // The graph between the panes keeps some room, as the style says too. Before the page is put together, no pane has a width.
+  const room = (): number => {
+    const [own, middle] = [kind === "left" ? ".text-pane" : ".form-pane", ".middle"].map(each => document.querySelector<HTMLElement>(each)?.offsetWidth ?? 0);
+    return middle ? Math.min(innerWidth * 0.5, own + middle - LEAST_GRAPH) : innerWidth * 0.5;
+  };
+  const ends = (): [number, number] => (is_flat ? [120, Math.max(120, innerHeight - 220)] : [180, Math.max(180, room())]);
   const tell = (value: number) => { const [least, most] = ends(); for (const [name, number] of [["min", least], ["max", most], ["now", value]] as const) bar.setAttribute(`aria-value${name}`, String(Math.round(number))); };
   const set = (size: number) => {
     const [least, most] = ends(), value = Math.max(least, Math.min(most, size));

@@ -27,7 +27,7 @@ export function moving_mean(values: readonly number[], first: number, last: numb
   return means;
 }
 
-const LABEL = 132, LEFT = 42, TIME = 40, LEAST = 64, MOST = 220, EVENT = 32, GAP = 8;
+const LABEL = 132, SLIM = 120, LEFT = 42, TIME = 40, LEAST = 64, MOST = 220, EVENT = 32, GAP = 8;
 
 export class CourseCharts {
   readonly element = h("div", { className: "courses", "data-own": "", tabIndex: 0, role: "group", "aria-label": "Courses over time. Arrow keys move in time, plus and minus zoom, Home and End go to the ends." });
@@ -141,7 +141,7 @@ export class CourseCharts {
   private draw(width: number, height: number): void {
     const { course } = this;
     if (!course) return;
-    const rows = this.rows(course), label = width < 400 ? 0 : LABEL, heads = label ? 0 : 24, few = course.cells.length, chart = width - label - (label ? 4 : 0);
+    const rows = this.rows(course), label = width < 400 ? 0 : LABEL, heads = label ? 0 : 24, few = course.cells.length, chart = Math.max(SLIM, width - label - (label ? 4 : 0));
     const each = Math.max(LEAST, Math.min(MOST, (height - TIME - course.events.length * (EVENT + heads) - few * heads) / Math.max(1, few) - GAP));
     const x = scaleLinear().domain(this.domain).range([LEFT, chart - 12]);
     this.element.classList.toggle("narrow", !label);
@@ -150,7 +150,7 @@ export class CourseCharts {
     this.values = [];
     const drawn = rows.map((row, k) => {
       const tall = row.is_event ? EVENT - GAP : each, svg = s("svg", { class: "plot", width: chart, height: tall, role: "img", "aria-label": row.says }), clip = `clip-${k}`, inside = s("g", {});
-      svg.append(s("defs", {}, s("clipPath", { id: clip }, s("rect", { x: LEFT, y: 0, width: Math.max(0, chart - LEFT - 10), height: tall }))));
+      svg.append(s("defs", {}, s("clipPath", { id: clip }, s("rect", { x: LEFT, y: 0, width: chart - LEFT - 10, height: tall }))));
       row.draw(inside, x, tall);
       const axis = inside.querySelector(".axis");
       if (axis) { axis.setAttribute("transform", `translate(${LEFT} 0)`); svg.append(axis); }
