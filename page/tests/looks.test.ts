@@ -3,7 +3,7 @@ import assert from "node:assert/strict";
 import test from "node:test";
 import { readFileSync } from "node:fs";
 
-const FILES = ["tokens", "base", "head", "panes", "graph", "forms", "panel", "results", "windows"], STYLES = FILES.map(name => ({ name, css: readFileSync(`src/ui/${name}.css`, "utf8").replace(/\/\*[^]*?\*\//g, "") }));
+const FILES = ["tokens", "base", "compare", "head", "panes", "graph", "forms", "panel", "results", "windows"], STYLES = FILES.map(name => ({ name, css: readFileSync(`src/ui/${name}.css`, "utf8").replace(/\/\*[^]*?\*\//g, "") }));
 const tokens = STYLES[0].css;
 const colours = (block: string): Record<string, string> => Object.fromEntries([...block.matchAll(/--([\w-]+): (#[0-9a-f]{6});/g)].map(([, name, value]) => [name, value]));
 const [light_block, dark_block] = tokens.split(":root[data-theme");

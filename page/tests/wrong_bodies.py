@@ -277,6 +277,27 @@ WRONG = (
         "words",
     ),
     Wrong(
+        "takes_any_word_for_an_answer",
+        "compare/verdict.ts",
+        "if (answer.failure || STATUSES[word] !== answer.status)",
+        "if (answer.failure)",
+        "compare",
+    ),
+    Wrong(
+        "compares_with_what_was_chosen_before",
+        "compare/comparing.ts",
+        "second = other_now !== other.text",
+        "second = other_now === null",
+        "compare",
+    ),
+    Wrong(
+        "shows_histories_of_another_run",
+        "compare/comparing.ts",
+        "{ ...asked, seed })",
+        "asked)",
+        "compare",
+    ),
+    Wrong(
         "offers_names_in_comments",
         "text/completion.ts",
         'if (line.includes("#") || ',

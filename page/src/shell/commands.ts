@@ -79,6 +79,7 @@ export function add_commands({ app, files, drawing, inspector, experiments, redu
     { id: "experiment", title: "Experiments: run", icon: "flask", group: "Run", run: () => { tabs.open("experiments"); void experiments.compare(); } },
     { id: "add-design", title: "Add a design", icon: "plus", group: "Run", can: is_accepted, run: () => { tabs.open("experiments"); store.add_design(); } },
     { id: "reduce", title: "Reduce", icon: "reduce", group: "Run", run: () => { tabs.open("reduce"); void reduce.go("reduce"); } },
+    { id: "compare", title: "Compare with another model", icon: "compare", group: "Run", run: () => tabs.open("compare") },
     { id: "show-conflicts", title: "Conflicts", icon: "conflict", group: "Run", run: () => tabs.open("conflicts") },
     { id: "palette", title: "Find or do …", keys: "Ctrl+K", icon: "search", group: "Help", run: () => palette(app) },
     { id: "guide", title: "Your first model, in five steps", icon: "flag", group: "Help", run: () => void files.open(EMPTY, "New").then(done => { if (done) guide.open(); }) },

@@ -51,17 +51,23 @@ export class Files {
     return true;
   }
 
+  /** The name and the text of a file, or null with a note if it is too long. */
+  private async read(file: File): Promise<{ name: string; text: string } | null> {
+    return this.text_is_too_long(file.size) ? null : { name: file_name(file.name), text: await file.text() };
+  }
   async open_blob(file: File): Promise<void> {
-    if (this.text_is_too_long(file.size)) return;
-    const text = await file.text();
-    await this.open({ ...EMPTY, text, saved: text, file: file_name(file.name) }, "Open");
+    const read = await this.read(file);
+    if (read) await this.open({ ...EMPTY, text: read.text, saved: read.text, file: read.name }, "Open");
   }
 
-  choose(): void {
+  private pick(take: (file: File) => void): void {
     const input = h("input", { type: "file", accept: ".sigma,.txt,text/plain" });
-    input.onchange = () => { const [file] = input.files ?? []; if (file) void this.open_blob(file); };
+    input.onchange = () => { const [file] = input.files ?? []; if (file) take(file); };
     input.click();
   }
+  choose(): void { this.pick(file => void this.open_blob(file)); }
+  /** Asks for a file without opening it. */
+  ask(take: (file: { name: string; text: string }) => void): void { this.pick(file => void this.read(file).then(read => { if (read) take(read); })); }
 
   save(): void {
     const { store } = this.app, file = file_name(store.doc.file) || "model.sigma";

@@ -5,7 +5,7 @@ import { icon } from "../ui/icons";
 import { keep, kept_json } from "./kept";
 
 type Dock = "open" | "max" | "closed";
-const FIRST: Record<string, Dock> = { run: "open", experiments: "max", reduce: "max", conflicts: "open", problems: "open", describe: "open", console: "open" };
+const FIRST: Record<string, Dock> = { run: "open", experiments: "max", reduce: "max", compare: "max", conflicts: "open", problems: "open", describe: "open", console: "open" };
 
 export class Tabs {
   readonly bar = h("div", { className: "tab-bar", role: "tablist", "aria-label": "Tabs" });
