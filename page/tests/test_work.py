@@ -114,6 +114,28 @@ def test_a_table_of_a_distribution_becomes_a_delay(page: Browser) -> None:
     page.until(ACCEPTED)
 
 
+def test_variables_are_searched(page: Browser) -> None:
+    """Of many variables those are shown whose names have the letters; a jump to another one finds it all the same."""
+    names = "[...document.querySelectorAll('.var-row[role=group]')].map(each => each.getAttribute('aria-label'))"
+    assert page.js("return document.querySelector('.search-vars') === null")
+    declared = "\n".join(f"var EXTRA{k} : 0..9 = 0;" for k in range(20))
+    page.js(
+        "sigma.store.edit(sigma.store.doc.text.replace('watch ', values[0] + '\\nwatch '), 'Typing')",
+        declared,
+    )
+    page.until(ACCEPTED)
+    page.click(".search-vars")
+    page.keys("extra1")
+    assert page.until(f"{names}.length === 11 && {names}") == [
+        f"EXTRA{k}" for k in (1, *range(10, 20))
+    ]
+    page.keys("x")
+    page.until(f"{names}.length === 0 && document.activeElement.matches('.search-vars')")
+    page.js("sigma.app.go_to_field('var:QUEUE', 'high')")
+    page.until(f"{names}.length === 24")
+    assert page.js("return document.activeElement.dataset.field") == "var:QUEUE/high"
+
+
 def test_templates_are_put_in(page: Browser) -> None:
     """A breakdown beside the bank, in one step of Undo."""
     page.js("sigma.app.pick(null)")
