@@ -48,7 +48,7 @@ use Rattle.answer_delivery.specs.Statuses.{status_of_answer, bytes_of_answer, st
 use Rattle.answer_delivery.specs.FailureStatus.{status_of_failure}
 use Rattle.sigma_top.specs.Promises.{PrintsModel, KeepsPromises}
 use Rattle.sigma_top.specs.StatusTable.{text_of, ReportsLine, WritesAnswer, Refuses, RepliesToInput, WritesAnswerFront, LacksMemory, ForJob, Ends}
-use Rattle.sigma_top.specs.Inner.CallSteps.{AnswersInput, AnswersWords}
+use Rattle.sigma_top.specs.Inner.CallSteps.{AnswersInput, AnswersWords, Reports}
 
 -- ---- what `print`, `reduce`, `fuse` and `narrow` give, and what `certify` finds sound
 
@@ -150,10 +150,6 @@ module _ {S K E : Type 0} (source : S → Inlet) (sink : K → Outlet) (errors :
   answer_reported ends.Differs h = (h, refl)
   answer_reported ends.Unknown h = (h, refl)
 
-  pub answer_ends : (end : End) (r : Result DeliveryOutcome Failure) (status : Status) → r ≡ Ok (said.Gave end) → status ≡ status_of_end end → AnswersWords source sink words r i j o p → Ends source sink errors words i j o p e e status
-  answer_ends end r status is of_status h =
-      subst (λ (s : Status). Ends source sink errors words i j o p e e s) (sym of_status) (answer_reported end (subst (λ (x : Result DeliveryOutcome Failure). AnswersWords source sink words x i j o p) is h))
-
   module _ (f : E) where
     -- a refusal is reported by its line
     refusal_reported : (why : Refusal) (line : List ℕ) → AnswersWords source sink words (Ok (said.Refused why line)) i j o p → ReportsLine (errors e) (errors f) line → Ends source sink errors words i j o p e f (status_of_refusal why)
@@ -162,12 +158,6 @@ module _ {S K E : Type 0} (source : S → Inlet) (sink : K → Outlet) (errors :
     refusal_reported refusals.Finished line h reported = (line, h, reported)
     refusal_reported refusals.TooLarge line h reported = (line, h, reported)
 
-    pub refusal_ends : (why : Refusal) (line shown : List ℕ) (r : Result DeliveryOutcome Failure) (status : Status) → r ≡ Ok (said.Refused why line) → status ≡ status_of_refusal why → shown ≡ line → AnswersWords source sink words r i j o p → ReportsLine (errors e) (errors f) shown
-        → Ends source sink errors words i j o p e f status
-    refusal_ends why line shown r status is of_status same h reported =
-        subst (λ (s : Status). Ends source sink errors words i j o p e f s) (sym of_status)
-        (refusal_reported why line (subst (λ (x : Result DeliveryOutcome Failure). AnswersWords source sink words x i j o p) is h) (subst (λ (l : List ℕ). ReportsLine (errors e) (errors f) l) same reported))
-
     -- a failure is reported by its line
     failure_reported : (failure : Failure) → AnswersWords source sink words (Err failure) i j o p → ReportsLine (errors e) (errors f) (failure_line failure) → Ends source sink errors words i j o p e f (status_of_failure failure)
     failure_reported failures.Usage h reported = (h.0, h.1, h.2, reported)
@@ -175,11 +165,15 @@ module _ {S K E : Type 0} (source : S → Inlet) (sink : K → Outlet) (errors :
     failure_reported failures.WriteFault h reported = (h, reported)
     failure_reported failures.NoMemory h reported = (h, reported)
 
-    pub failure_ends : (failure : Failure) (shown : List ℕ) (r : Result DeliveryOutcome Failure) (status : Status) → r ≡ Err failure → status ≡ status_of_failure failure → shown ≡ failure_line failure → AnswersWords source sink words r i j o p → ReportsLine (errors e) (errors f) shown
-        → Ends source sink errors words i j o p e f status
-    failure_ends failure shown r status is of_status same h reported =
-        subst (λ (s : Status). Ends source sink errors words i j o p e f s) (sym of_status)
-        (failure_reported failure (subst (λ (x : Result DeliveryOutcome Failure). AnswersWords source sink words x i j o p) is h) (subst (λ (l : List ℕ). ReportsLine (errors e) (errors f) l) same reported))
+    -- what was answered and reported is a row of the table
+    pub reported_ends : (r : Result DeliveryOutcome Failure) (status : Status) → AnswersWords source sink words r i j o p → Reports errors r e f status → Ends source sink errors words i j o p e f status
+    reported_ends (Ok (said.Gave end)) status h k =
+        subst (λ (s : Status). Ends source sink errors words i j o p e f s) (sym k.1)
+        (subst (λ (g : E). Ends source sink errors words i j o p e g (status_of_end end)) (sym k.0) (answer_reported end h))
+    reported_ends (Ok (said.Refused why line)) status h k =
+        subst (λ (s : Status). Ends source sink errors words i j o p e f s) (sym k.1) (refusal_reported why line h k.0)
+    reported_ends (Err failure) status h k =
+        subst (λ (s : Status). Ends source sink errors words i j o p e f s) (sym k.1) (failure_reported failure h k.0)
 
     -- the bytes of the output grew by these
     abbrev Grows : List ℕ → Type 0

@@ -1,24 +1,22 @@
-//! The top call, `sigma`: from the words, the input and the outputs to a status. `answer_call` > `answer_words` >
-//! `answer_input` > `answer_text` (in `job_answers`) is its way inwards. It knows a job by what that reads, and everything else
-//! is proved once for all jobs.
+//! The top call, `sigma`: from the words, the input and the outputs to a status. It calls `answer_words`, which calls
+//! `answer_text` (in `job_answers`). It knows a job by what that reads, and everything else is proved once for all jobs.
 
 ghost use Rattle.std.specs.Prelude.{◌≡◌, ◌⊎◌, Some, map, IfSome};
 ghost use Rattle.std.specs.String.{string_bytes};
 ghost use Rattle.sig_base.specs.Faults.{HasRisen};
 ghost use Rattle.command_words.specs.declared.job.Job.{Job};
 ghost use Rattle.command_words.specs.Jobs.{job_of};
-ghost use Rattle.command_words.specs.KeptLimits.{KeepsLimits};
 ghost use Rattle.command_words.specs.Readings.{reading_of, limit_of};
 ghost use Rattle.model_core.specs.EventGraph.{EventGraph};
 ghost use Rattle.model_core.specs.Static.Reading.{Reads};
 ghost use Rattle.job_answers.specs.Answers.{MayStopShort};
 ghost use Rattle.sigma_top.specs.Promises.{IsOfAnswer, KeepsPromises};
 ghost use Rattle.sigma_top.specs.StatusTable.{text_of, ReportsLine, Ends};
-ghost use Rattle.sigma_top.specs.Inner.CallSteps.{AnswersInput, AnswersWords};
+ghost use Rattle.sigma_top.specs.Inner.CallSteps.{AnswersWords, Reports};
 
 use crate::text_taking::{TakenText, take_text};
 use answer_delivery::{DeliveryOutcome, Failure, Status, deliver, too_long_answer};
-use command_words::{Reading, WordsError, jobs_keep_their_limits};
+use command_words::{WordsError, jobs_keep_their_limits};
 use job_answers::{
     answer_text, answers_keep_their_laws, fused_models_mean_the_same,
     narrower_models_mean_the_same, read_runs_are_answered, readable_models_are_reduced,
@@ -27,26 +25,7 @@ use job_answers::{
 use sig_base::{Sink, Source, put};
 use std::alloc::Global;
 
-/// Takes the text from the input, and writes the answer to it.
-fn answer_input<S: Source, K: Sink>(
-    alloc: Global,
-    reading: &Reading,
-    input: &mut S,
-    output: &mut K,
-) -> Result<DeliveryOutcome, Failure>
-    requires { KeepsLimits reading.now }
-    ensures { AnswersInput S.seen K.seen reading.now result
-        input.old input.new output.old output.new }
-{
-    answers_keep_their_laws();
-    match take_text(alloc, reading.limit(), input) {
-        Ok(TakenText::Whole(text)) => answer_text(alloc, reading, text.as_slice(), output),
-        Ok(TakenText::TooLong) => deliver(output, too_long_answer(alloc)),
-        Err(failure) => Err(failure),
-    }
-}
-
-/// Does the job that the words ask for.
+/// Does the job that the words ask for: takes the text of the job from the input, and writes the answer to it.
 fn answer_words<S: Source, K: Sink>(
     alloc: Global,
     words: &[String],
@@ -56,10 +35,16 @@ fn answer_words<S: Source, K: Sink>(
     ensures { AnswersWords S.seen K.seen (map string_bytes words.now) result
         input.old input.new output.old output.new }
 {
-    match command_words::words(alloc, words) {
-        Ok(job) => answer_input(alloc, &job.reading(), input, output),
-        Err(WordsError::BadWords) => Err(Failure::Usage),
-        Err(WordsError::NoMemory) => Err(Failure::NoMemory),
+    answers_keep_their_laws();
+    let reading = match command_words::words(alloc, words) {
+        Ok(job) => job.reading(),
+        Err(WordsError::BadWords) => return Err(Failure::Usage),
+        Err(WordsError::NoMemory) => return Err(Failure::NoMemory),
+    };
+    match take_text(alloc, reading.limit(), input) {
+        Ok(TakenText::Whole(text)) => answer_text(alloc, &reading, text.as_slice(), output),
+        Ok(TakenText::TooLong) => deliver(output, too_long_answer(alloc)),
+        Err(failure) => Err(failure),
     }
 }
 
@@ -70,18 +55,11 @@ pub(crate) fn write_line<E: Sink>(errors: &mut E, line: &[u8])
     let _ = put(errors, line);
 }
 
-/// Does the job that the words ask for. Where it isn't done, the line that says why goes to the error output.
-fn answer_call<S: Source, K: Sink, E: Sink>(
-    alloc: Global,
-    words: &[String],
-    input: &mut S,
-    output: &mut K,
-    errors: &mut E,
-) -> Status
-    ensures { Ends S.seen K.seen E.seen (map string_bytes words.now)
-        input.old input.new output.old output.new errors.old errors.new result }
+/// The status of a call that answered so. If the job wasn't done, the line that says why goes to the error output.
+fn report<E: Sink>(answered: Result<DeliveryOutcome, Failure>, errors: &mut E) -> Status
+    ensures { Reports E.seen answered errors.old errors.new result }
 {
-    match answer_words(alloc, words, input, output) {
+    match answered {
         Ok(DeliveryOutcome::Gave(end)) => end.status(),
         Ok(DeliveryOutcome::Refused(why, line)) => {
             write_line(errors, line.as_slice());
@@ -145,5 +123,6 @@ pub fn sigma<S: Source, K: Sink, E: Sink>(
     saved_runs_are_resumed();
     read_runs_are_answered();
     jobs_keep_their_limits();
-    answer_call(alloc, words, input, output, errors)
+    let answered = answer_words(alloc, words, input, output);
+    report(answered, errors)
 }

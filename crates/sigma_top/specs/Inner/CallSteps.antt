@@ -1,4 +1,4 @@
--- The clauses between the steps of a call: taking the text, doing the job, doing the job of the words.
+-- The clauses of the steps of a call: taking the text, doing the job of the words, reporting how that ended.
 use Rattle.std.specs.Prelude.{◌≡◌, ◌⊎◌, ℕ, List, Option, None, Result, Ok, Err, IfSome, IsSome}
 use Rattle.sig_base.specs.Faults.{HasRisen}
 use Rattle.sig_base.specs.Sink.{Outlet}
@@ -9,10 +9,13 @@ use Rattle.answer_delivery.specs.declared.delivering.DeliveryOutcome.{DeliveryOu
 use Rattle.answer_delivery.specs.declared.delivering.DeliveryOutcome.TheVariants as said
 use Rattle.answer_delivery.specs.declared.status.Failure.{Failure}
 use Rattle.answer_delivery.specs.declared.status.Failure.TheVariants as failures
+use Rattle.answer_delivery.specs.declared.status.Status.{Status}
+use Rattle.answer_delivery.specs.FailureStatus.{status_of_failure}
+use Rattle.answer_delivery.specs.Statuses.{failure_line, status_of_end, status_of_refusal}
 use Rattle.job_answers.specs.Answers.{IsWithin, IsOver}
 use Rattle.sigma_top.specs.declared.text_taking.TakenText.{TakenText}
 use Rattle.sigma_top.specs.declared.text_taking.TakenText.TheVariants as taken
-use Rattle.sigma_top.specs.StatusTable.{text_of, IsReadToEnd, IsReadThrough, IsReadInPart, WritesAnswer, Refuses, FailsToRead, FailsToWrite, LacksMemory, ForJob}
+use Rattle.sigma_top.specs.StatusTable.{text_of, ReportsLine, IsReadToEnd, IsReadThrough, IsReadInPart, WritesAnswer, Refuses, FailsToRead, FailsToWrite, LacksMemory, ForJob}
 
 -- what taking a text, up to a limit, did to the input
 abbrev pub TakesText : {S : Type 0} → (S → Inlet) → Option ℕ → Result TakenText Failure → S → S → Type 0
@@ -38,3 +41,9 @@ module _ {S K : Type 0} (source : S → Inlet) (sink : K → Outlet) where
   AnswersWords words (Err failures.Usage) i j o p = (job_of words ≡ None) × (j ≡ i) × (p ≡ o)
   AnswersWords words (Err failures.NoMemory) i j o p = ((j ≡ i) × (p ≡ o)) ⊎ ForJob words (λ reading. AnswersInput reading (Err failures.NoMemory) i j o p)
   AnswersWords words result i j o p = ForJob words (λ reading. AnswersInput reading result i j o p)
+
+-- the status is that of what was answered; the line that says why the job isn't done, if it isn't, was written
+abbrev pub Reports : {E : Type 0} → (E → Outlet) → Result DeliveryOutcome Failure → E → E → Status → Type 0
+Reports seen (Ok (said.Gave end)) e f status = (f ≡ e) × (status ≡ status_of_end end)
+Reports seen (Ok (said.Refused why line)) e f status = ReportsLine (seen e) (seen f) line × (status ≡ status_of_refusal why)
+Reports seen (Err failure) e f status = ReportsLine (seen e) (seen f) (failure_line failure) × (status ≡ status_of_failure failure)
