@@ -16,6 +16,10 @@ const EXPRESSIONS = [
   ["draw WHO from 2 by TABLE", "a value of a table, by weight"], ["+ - * / %", "whole numbers; / rounds toward 0"], ["= <> < <= > >=", "compare"], ["and or not", "join conditions"],
   ["if C then A else B", "one of two values"], ["min(A, B) max(A, B)", "the lesser, the greater"], ["WAITING[2]", "a cell of an array"], ["clk", "the time now"],
 ];
+const PANEL = [
+  ["Run", "one run, event by event"], ["Experiments", "many runs, and designs compared"], ["Reduce", "what the model doesn't need, taken out"], ["Compare", "whether another model is the same"],
+  ["Conflicts", "pairs of events whose order can matter"], ["Problems", "what is wrong, and what is likely a slip"], ["Describe", "the model in English"], ["Console", "any command"],
+];
 const rows = (list: readonly (readonly string[])[], first: (text: string) => Node | string): HTMLElement[] => list.map(([a, b]) => h("tr", {}, h("td", {}, first(a)), h("td", {}, b)));
 
 export function open_help(): void {
@@ -23,6 +27,7 @@ export function open_help(): void {
   dialog("Help", h("div", { className: "help" },
     h("section", {}, h("h3", {}, "On the graph"), h("table", {}, ...rows(MOUSE, text => text))),
     h("section", {}, h("h3", {}, "Keys"), h("table", {}, ...rows(keys, text => h("kbd", {}, text)))),
+    h("section", {}, h("h3", {}, "In the panel"), h("table", {}, ...rows(PANEL, text => text))),
     h("section", {}, h("h3", {}, "What may be written"), h("table", {}, ...rows(EXPRESSIONS, text => h("code", {}, text)))),
     h("section", {}, h("h3", {}, "On the graph you see"), legend())));
 }
