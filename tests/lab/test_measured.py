@@ -5,14 +5,18 @@ from __future__ import annotations
 import subprocess
 import sys
 
+import numpy as np
 import pytest
 from lab import TOP
+
+from sigma_lab import program, seeds
 
 MEASURED = TOP / "lab" / "measured"
 sys.path.insert(0, str(MEASURED))
 
 import statistics_page as page  # noqa: E402
 import rows  # noqa: E402
+import strides  # noqa: E402
 
 
 def test_the_page_has_what_was_measured():
@@ -33,7 +37,34 @@ def test_no_default_holds_below_92_at_its_fewest_runs():
     assert not [row for row in rows_of if float(row["share"]) < 92]
 
 
-@pytest.mark.parametrize("script", ["coverage", "decisions", "precision"])
+def test_there_is_a_stride_that_holds_as_independent_seeds_do():
+    """With 2^64 by the golden ratio 20 runs of 10 streams hold in 91 % of series."""
+    seen = rows.kept("strides")
+    shares = {(row["method"], row["law"], row["runs"]): float(row["share"]) for row in seen}
+    chosen = {key[1:]: share for key, share in shares.items() if key[0] == "0xeae29b3870b009f1"}
+    assert len(chosen) == len(strides.STREAMS) * len(strides.RUNS) * len(strides.DRAWS)
+    for key, share in chosen.items():
+        assert share > shares["independent", *key] - 1.2, key
+    assert shares["0x9e3779b97f4a7c15", "10 streams, 1 draws each", "20"] < 93
+
+
+def test_the_words_of_strides_are_the_draws_of_the_program():
+    text = "".join(f"var A{k} : 0..999 = 0; " for k in range(8))
+    draws = " ".join(f"draw A{k} from {9 * k} in 0..999;" for k in range(8))
+    watched = ", ".join(f"A{k}" for k in range(8))
+    model = f"version 2; model P; {text} watch {watched}; vertex GO {{ {draws} schedule GO after 1; }} end\n"
+    for seed in (0, 1, seeds.spawn(5), 2**64 - 1):
+        words = ["run", "--until=2", "--events=9", f"--seed={seed}"]
+        lines = program.call(words, model).decode().splitlines()[:3]
+        shown = [[int(part.partition("=")[2]) for part in line.split()[2:]] for line in lines]
+        made = [
+            [int(each[0]) for each in strides.draws(np.array([seed], dtype=np.uint64), 9 * k, 3)]
+            for k in range(8)
+        ]
+        assert shown == [list(each) for each in zip(*made)]
+
+
+@pytest.mark.parametrize("script", ["coverage", "decisions", "precision", "strides"])
 def test_the_scripts_are_whole(script):
     """They load, and have all that they name; that they can be repeated takes half an hour."""
     made = subprocess.run(
