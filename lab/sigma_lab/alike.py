@@ -1,4 +1,4 @@
-"""Whether two models differ: what `sigma compare` answers."""
+"""Whether two models mean the same: what `sigma compare` answers."""
 
 from __future__ import annotations
 
@@ -21,7 +21,7 @@ class Comparison:
     Attributes
     ----------
     verdict : str
-        `differs`, which is sure; or `unknown`, if no run showed a difference, which doesn't say that they are the same.
+        `same` or `differs`, which are sure; or `unknown`, if the program found neither.
     text : str
         The program's whole answer, with the two lines that differ.
     """

@@ -19,7 +19,7 @@ set -l lines \
     'resume|Continues a saved run' \
     'reduce|Takes out of a model what it doesn'\''t need' \
     'certify|Checks a reduction that another program or a person made' \
-    'compare|Says whether two models differ, and where' \
+    'compare|Says whether two models mean the same, or where they differ' \
     'fuse|Merges duplicated vertices' \
     'narrow|Declares ranges that no run leaves' \
     'trial|Draws a model from a number, reduces it and runs both'

@@ -125,9 +125,9 @@ def test_the_longest_lists_for_certify(call: Program) -> None:
 
 
 def test_the_longest_lists_for_compare(call: Program) -> None:
-    """The same for two texts, of which nothing is known."""
+    """The same for two texts of one model."""
     text = full()["print"]
-    call(f"compare {FULL_WORDS} --events 1 --runs 1", text + text).ends(13, b"unknown\n")
+    call(f"compare {FULL_WORDS} --events 1 --runs 1", text + text).gives(b"same\n")
 
 
 def test_the_longest_lists_for_resume(call: Program) -> None:

@@ -9,7 +9,7 @@ use Rattle.sig_base.specs.declared.limits.TheConstants.{TEXT_MAX, DOCUMENT_MAX}
 use Rattle.model_core.specs.EventGraph.{EventGraph}
 use Rattle.model_core.specs.Rules.Reduction.{RuleApplication}
 use Rattle.model_core.specs.Saved.SavedRun.{SavedRun}
-use Rattle.model_core.specs.Static.Reading.{Reads, ReadsDocument}
+use Rattle.model_core.specs.Static.Reading.{Reads, IsValid, ReadsDocument}
 use Rattle.answer_delivery.specs.declared.answer.Answer.{Answer}
 use Rattle.answer_delivery.specs.declared.complaint.Complaint.{Complaint}
 use Rattle.answer_delivery.specs.AnswerForms.{refused, too_long}
@@ -42,6 +42,7 @@ pub record PairLaws : Type 0 where
   pub none : (text : List ℕ) (c : Complaint) (i : ℕ) (g h : EventGraph) → IsPairComplaint text c i → ReadsPair text g h → ⊥
   pub one_reading : (text : List ℕ) (g h k l : EventGraph) → ReadsPair text g h → ReadsPair text k l → (g ≡ k) × (h ≡ l)
   pub some : (text : List ℕ) → length text ≤ DOCUMENT_MAX → HasPairComplaint text ⊎ ((g : EventGraph) × (h : EventGraph) × ReadsPair text g h)
+  pub valid : (text : List ℕ) (g h : EventGraph) → ReadsPair text g h → IsValid g × IsValid h
 
 -- and of each saved document
 pub record SavedLaws : Type 0 where
@@ -88,7 +89,7 @@ module _ (complaints : ComplaintLaws) (documents : DocumentLaws) (pairs : PairLa
     where
       by : HasPairComplaint text ⊎ ((g : EventGraph) × (h : EventGraph) × ReadsPair text g h) → (a : Answer) × Responds (readings.Pair job) text a
       by (inl c) = (_, inl (refusal (IsPairComplaint text) c.0 c.1 c.2))
-      by (inr (g, h, reads)) = let w = laws.exists (g, h) tt in (w.0, inr (g, h, reads, w.1))
+      by (inr (g, h, reads)) = let w = laws.exists (g, h) (pairs.valid text g h reads) in (w.0, inr (g, h, reads, w.1))
   text_answered (readings.Saved job) laws asked within = by (saved.some text within)
     where
       by : HasSavedComplaint text ⊎ ((g : EventGraph) × (s : SavedRun) × ReadsSaved text g s) → (a : Answer) × Responds (readings.Saved job) text a

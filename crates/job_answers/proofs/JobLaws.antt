@@ -8,6 +8,7 @@ use Rattle.command_words.specs.declared.reading.Reading.{Reading}
 use Rattle.command_words.specs.declared.reading.Reading.TheVariants as readings
 use Rattle.model_core.specs.Rules.Fuse.{Fused}
 use Rattle.model_core.specs.Ranges.Narrowed.{IsNarrowed}
+use Rattle.normal_form.specs.Normal.{Normal}
 use Rattle.job_answers.specs.AnswerLaws.{KeepsAnswerLaws}
 use Rattle.job_answers.proofs.commands.CheckLaws.{check_laws}
 use Rattle.job_answers.proofs.commands.PrintLaws.{print_laws}
@@ -24,19 +25,19 @@ use Rattle.job_answers.proofs.commands.TrialLaws.{OneSummary, trial_laws}
 use Rattle.job_answers.proofs.commands.CertifyLaws.{certify_laws}
 use Rattle.job_answers.proofs.commands.CompareLaws.{compare_laws}
 
-pub keeps_laws : OneStrategy → StrategyEnds → BecomesOne Fused → BecomesOne IsNarrowed → OneSummary → GoingIsLed → (reading : Reading) → KeepsAnswerLaws reading
-keeps_laws only ends fuses narrows trials led (readings.Model models.Check) = check_laws
-keeps_laws only ends fuses narrows trials led (readings.Model models.Print) = print_laws
-keeps_laws only ends fuses narrows trials led (readings.Model models.Reduce) = reduce_laws only ends
-keeps_laws only ends fuses narrows trials led (readings.Model models.Uses) = uses_laws
-keeps_laws only ends fuses narrows trials led (readings.Model models.Conflicts) = conflicts_laws
-keeps_laws only ends fuses narrows trials led (readings.Model models.Fuse) = fuse_laws fuses
-keeps_laws only ends fuses narrows trials led (readings.Model models.Narrow) = narrow_laws narrows
-keeps_laws only ends fuses narrows trials led (readings.Model models.Describe) = describe_laws
-keeps_laws only ends fuses narrows trials led (readings.Model (models.Run options)) = run_laws options
-keeps_laws only ends fuses narrows trials led (readings.Model (models.Replicate options)) = replicate_laws options
-keeps_laws only ends fuses narrows trials led (readings.Model (models.Save options)) = save_laws led options
-keeps_laws only ends fuses narrows trials led (readings.Document documents.Certify) = certify_laws
-keeps_laws only ends fuses narrows trials led (readings.Pair (pairs.Compare options)) = compare_laws options
-keeps_laws only ends fuses narrows trials led (readings.Saved (saved_jobs.Resume options)) = resume_laws options
-keeps_laws only ends fuses narrows trials led (readings.Nothing (bare.Trial options)) = trial_laws trials options
+pub keeps_laws : OneStrategy → StrategyEnds → BecomesOne Fused → BecomesOne IsNarrowed → BecomesOne Normal → OneSummary → GoingIsLed → (reading : Reading) → KeepsAnswerLaws reading
+keeps_laws only ends fuses narrows forms trials led (readings.Model models.Check) = check_laws
+keeps_laws only ends fuses narrows forms trials led (readings.Model models.Print) = print_laws
+keeps_laws only ends fuses narrows forms trials led (readings.Model models.Reduce) = reduce_laws only ends
+keeps_laws only ends fuses narrows forms trials led (readings.Model models.Uses) = uses_laws
+keeps_laws only ends fuses narrows forms trials led (readings.Model models.Conflicts) = conflicts_laws
+keeps_laws only ends fuses narrows forms trials led (readings.Model models.Fuse) = fuse_laws fuses
+keeps_laws only ends fuses narrows forms trials led (readings.Model models.Narrow) = narrow_laws narrows
+keeps_laws only ends fuses narrows forms trials led (readings.Model models.Describe) = describe_laws
+keeps_laws only ends fuses narrows forms trials led (readings.Model (models.Run options)) = run_laws options
+keeps_laws only ends fuses narrows forms trials led (readings.Model (models.Replicate options)) = replicate_laws options
+keeps_laws only ends fuses narrows forms trials led (readings.Model (models.Save options)) = save_laws led options
+keeps_laws only ends fuses narrows forms trials led (readings.Document documents.Certify) = certify_laws
+keeps_laws only ends fuses narrows forms trials led (readings.Pair (pairs.Compare options)) = compare_laws forms options
+keeps_laws only ends fuses narrows forms trials led (readings.Saved (saved_jobs.Resume options)) = resume_laws options
+keeps_laws only ends fuses narrows forms trials led (readings.Nothing (bare.Trial options)) = trial_laws trials options

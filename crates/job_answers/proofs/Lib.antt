@@ -5,6 +5,7 @@ pub mod StartLaws
 pub mod HistoryLaws
 pub mod Streaming
 pub mod GivenAnswers
+mod ComparedLaws
 mod DocumentOutcome
 mod FaultLaws
 mod FrontOutcome

@@ -66,3 +66,8 @@ pub delivered : {K : Type 0} (seen : K → Outlet) (P : Answer → Type 0) (Shor
     → MatchResult made (λ a. Delivers seen a r o p × (r ≢ Err failures.NoMemory)) (λ e. (r ≡ Err failures.NoMemory) × (p ≡ o)) → DeliversSome seen P Short r o p
 delivered seen P Short o p (Ok a) r holds h = inl (record { answer = a; holds = holds; delivers = h.0; short = λ e. absurd (h.1 e) })
 delivered seen P Short o p (Err e) r holds h = inr h
+
+-- an answer of which one thing holds is one of which another holds
+pub delivers_as : {K : Type 0} (seen : K → Outlet) (P Q : Answer → Type 0) (Short : Type 0) (r : Result DeliveryOutcome Failure) (o p : K) → ((a : Answer) → P a → Q a) → DeliversSome seen P Short r o p → DeliversSome seen Q Short r o p
+delivers_as seen P Q Short r o p so (inl one) = inl (record { answer = one.answer; holds = so one.answer one.holds; delivers = one.delivers; short = one.short })
+delivers_as seen P Q Short r o p so (inr none) = inr none

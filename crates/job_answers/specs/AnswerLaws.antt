@@ -44,6 +44,6 @@ abbrev pub KeepsAnswerLaws : Reading → Type 0
 KeepsAnswerLaws (readings.Model job) = HasOneAnswer IsValid (AnswersModel job) (HasNothingToWrite (readings.Model job))
 KeepsAnswerLaws (readings.Document job) =
     HasOneAnswer {M = DocumentParts} (λ d. Unit {0}) (λ d. AnswersDocument job d.0 d.1 d.2) (HasNothingToWrite (readings.Document job))
-KeepsAnswerLaws (readings.Pair job) = HasOneAnswer {M = PairParts} (λ d. Unit {0}) (λ d. AnswersPair job d.0 d.1) (HasNothingToWrite (readings.Pair job))
+KeepsAnswerLaws (readings.Pair job) = HasOneAnswer {M = PairParts} (λ d. IsValid d.0 × IsValid d.1) (λ d. AnswersPair job d.0 d.1) (HasNothingToWrite (readings.Pair job))
 KeepsAnswerLaws (readings.Saved job) = HasOneAnswer {M = SavedParts} (λ d. Unit {0}) (λ d. AnswersSaved job d.0 d.1) (HasNothingToWrite (readings.Saved job))
 KeepsAnswerLaws (readings.Nothing job) = HasOneAnswer {M = Unit {0}} (λ u. MayBeAsked (readings.Nothing job)) (λ u. AnswersAlone job) (HasNothingToWrite (readings.Nothing job))

@@ -42,7 +42,7 @@ use Rattle.job_answers.specs.ReplicateAnswer.{replicate_answer}
 use Rattle.job_answers.specs.SaveAnswer.{save_answer}
 use Rattle.job_answers.specs.ResumeAnswer.{resume_answer, ResumedExceedsRoom}
 use Rattle.job_answers.specs.CertifyAnswer.{answer_of_verdict}
-use Rattle.job_answers.specs.CompareAnswer.{compare_answer}
+use Rattle.job_answers.specs.CompareAnswer.{Compares}
 
 -- ---- what is answered for what was read, job by job
 
@@ -71,9 +71,9 @@ AnswersModel (models.Save options) g a = a ≡ save_answer g options
 abbrev pub AnswersDocument : DocumentJob → EventGraph → List RuleApplication → EventGraph → Answer → Type 0
 AnswersDocument documents.Certify original applications reduced a = a ≡ answer_of_verdict (verdict original applications reduced)
 
--- `compare` says whether two models differ, as far as it is known
+-- `compare` says whether two models mean the same, as far as it is known
 abbrev pub AnswersPair : PairJob → EventGraph → EventGraph → Answer → Type 0
-AnswersPair (pairs.Compare options) g h a = a ≡ compare_answer g h options
+AnswersPair (pairs.Compare options) g h a = Compares g h options a
 
 -- `resume` writes the history of the saved run from there on
 abbrev pub AnswersSaved : SavedJob → EventGraph → SavedRun → Answer → Type 0

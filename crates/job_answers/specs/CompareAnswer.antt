@@ -1,8 +1,9 @@
--- What `compare` answers for two models: whether they differ in what they declare, or in a run of each; or else that nothing is
--- known. That two models mean the same isn't answered yet.
-use Rattle.std.specs.Prelude.{ℕ, zero, suc, ◌+◌, List, ◌++◌, codes, decimal, Option, Some, None}
+-- What `compare` answers for two models: that they differ in what they declare; or that they mean the same, where they have one
+-- normal form; or that they differ in a run of each; or else that nothing is known.
+use Rattle.std.specs.Prelude.{◌≡◌, ℕ, zero, suc, ◌+◌, Bool, true, false, List, ◌++◌, codes, decimal, Option, Some, None}
 use Rattle.command_words.specs.declared.compare_options.CompareOptions.{CompareOptions}
 use Rattle.model_core.specs.EventGraph.{EventGraph}
+use Rattle.normal_form.specs.OneForm.{NormalForms, equal_but_names}
 use Rattle.model_pairs.specs.declared.line_pair.LinePair.{LinePair}
 use Rattle.model_pairs.specs.declared.lines_apart.LinesApart.{LinesApart}
 use Rattle.model_pairs.specs.DeclaredApart.{declared_apart}
@@ -49,10 +50,27 @@ abbrev pub declared_or : Option LinePair → Answer → Answer
 declared_or (Some lines) later = Given ends.Differs (declared_text lines)
 declared_or None later = later
 
--- what `compare` answers for two models and starting values that the first of them takes
-abbrev pub comparing_answer : EventGraph → EventGraph → CompareOptions → Answer
-comparing_answer g h o = declared_or (declared_apart g h) (answer_of_runs g h o 1 o.runs)
+-- the models mean the same
+abbrev pub same_text : List ℕ
+same_text = codes "same\n"
+
+-- that the models mean the same, where their forms are equal but for names, and else what the runs show
+abbrev pub same_or : Bool → Answer → Answer
+same_or true later = Given ends.Done same_text
+same_or false later = later
+
+-- what `compare` answers for two models with these normal forms, and starting values that the first model takes
+abbrev pub comparing_answer : EventGraph → EventGraph → EventGraph → EventGraph → CompareOptions → Answer
+comparing_answer g h one other o = declared_or (declared_apart g h) (same_or (equal_but_names one other) (answer_of_runs g h o 1 o.runs))
+
+-- what `compare` answers for two models with these normal forms
+abbrev pub compare_answer : EventGraph → EventGraph → EventGraph → EventGraph → CompareOptions → Answer
+compare_answer g h one other o = refused_or (start_refusal g o.starts) (comparing_answer g h one other o)
+
+-- the answer is this one for the normal forms of two models
+abbrev pub OfForms : (g h : EventGraph) → (EventGraph → EventGraph → Answer) → Answer → Type 0
+OfForms g h answer a = (forms : NormalForms g h) × (a ≡ answer forms.first forms.second)
 
 -- what `compare` answers for two models
-abbrev pub compare_answer : EventGraph → EventGraph → CompareOptions → Answer
-compare_answer g h o = refused_or (start_refusal g o.starts) (comparing_answer g h o)
+abbrev pub Compares : EventGraph → EventGraph → CompareOptions → Answer → Type 0
+Compares g h o = OfForms g h (λ one other. compare_answer g h one other o)

@@ -13,6 +13,7 @@ pub mod SaveAnswer
 pub mod ResumeAnswer
 pub mod CertifyAnswer
 pub mod CompareAnswer
+pub mod ComparedModels
 pub mod Answers
 pub mod AnswerLaws
 pub mod SavedAndResumed

@@ -1,6 +1,7 @@
 //! The answer to a text, on its way to the output: the text is read, the command answers, or the complaint is written.
 
-ghost use Rattle.std.specs.Prelude.{map};
+ghost use Rattle.std.specs.Prelude.{◌≡◌, map};
+ghost use Rattle.command_words.specs.declared.reading.PairJob.TheVariants.{Compare};
 ghost use Rattle.command_words.specs.declared.reading.Reading.TheVariants.{Model as OfModel, Pair as OfPair, Saved as OfSaved, Nothing as OfNothing};
 ghost use Rattle.command_words.specs.KeptLimits.{KeepsLimits};
 ghost use Rattle.command_words.specs.Readings.{limit_of};
@@ -32,7 +33,7 @@ use crate::pair_reading::{ModelPair, pair_of};
 use crate::reading_error::ReadingError;
 use crate::saved_reading::{SavedDocument, saved_document_of};
 use answer_delivery::{DeliveryOutcome, Failure, complaint_answer, deliver};
-use command_words::{BareJob, DocumentJob, ModelJob, PairJob, Reading, SavedJob};
+use command_words::{BareJob, CompareOptions, DocumentJob, ModelJob, PairJob, Reading, SavedJob};
 use model_core::Model;
 use sig_base::Sink;
 use std::alloc::Global;
@@ -84,6 +85,15 @@ fn answer_document<K: Sink>(
     }
 }
 
+/// What a command on two models is asked for.
+fn comparison_of(job: &PairJob) -> &CompareOptions
+    ensures { job.now ≡ Compare result.now }
+{
+    match job {
+        PairJob::Compare(options) => options,
+    }
+}
+
 /// Writes the answer of a command on two models.
 fn answer_pair<K: Sink>(
     alloc: Global,
@@ -98,9 +108,7 @@ fn answer_pair<K: Sink>(
         (AnswersPair job.now (graph_of pair.now.first) (graph_of pair.now.second))
         ⊥ result output.old output.new }
 {
-    match job {
-        PairJob::Compare(options) => compare(alloc, pair, options, output),
-    }
+    compare(alloc, pair, comparison_of(job), output)
 }
 
 /// Writes the answer of a command on a saved run.

@@ -6,7 +6,7 @@ ghost use Rattle.command_words.specs.declared.reading.Reading.TheVariants.{Saved
 ghost use Rattle.command_words.specs.declared.reading.SavedJob.{SavedJob};
 ghost use Rattle.model_core.specs.EventGraph.{EventGraph};
 ghost use Rattle.model_core.specs.Rules.Reduction.{RuleApplication};
-ghost use Rattle.model_core.specs.Static.Reading.{ReadsDocument};
+ghost use Rattle.model_core.specs.Static.Reading.{IsValid, ReadsDocument};
 ghost use Rattle.model_core.specs.Saved.SavedRun.{SavedRun};
 ghost use Rattle.answer_delivery.specs.declared.answer.Answer.{Answer};
 ghost use Rattle.answer_delivery.specs.declared.complaint.Complaint.{Complaint};
@@ -38,7 +38,7 @@ pub fn documents_have_one_complaint()
     accepted_or_one_fault();
 }
 
-/// A document of two texts within its limit has one complaint or reads as two models, and never both.
+/// A document of two texts within its limit has one complaint or reads as two models, which are valid, and never both.
 pub fn pairs_have_one_complaint()
     ensures one { (text : List ℕ) (c d : Complaint) (i j : ℕ) → IsPairComplaint text c i
         → IsPairComplaint text d j → (c ≡ d) × (i ≡ j) }
@@ -48,6 +48,8 @@ pub fn pairs_have_one_complaint()
         → ReadsPair text k l → (g ≡ k) × (h ≡ l) }
     ensures some { (text : List ℕ) → length text ≤ DOCUMENT_MAX
         → HasPairComplaint text ⊎ ((g : EventGraph) × (h : EventGraph) × ReadsPair text g h) }
+    ensures valid { (text : List ℕ) (g h : EventGraph) → ReadsPair text g h
+        → IsValid g × IsValid h }
 {
     accepted_or_one_fault();
 }

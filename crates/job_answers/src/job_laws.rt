@@ -3,6 +3,7 @@
 ghost use Rattle.command_words.specs.declared.reading.Reading.{Reading};
 ghost use Rattle.job_answers.specs.AnswerLaws.{KeepsAnswerLaws};
 
+use normal_form::normal_forms_keep_the_meaning;
 use range_infer::narrowed_models_mean_the_same;
 use reducer::{strategies_are_determined, strategies_end};
 use run_laws::runs_go_on;
@@ -18,6 +19,7 @@ pub fn answers_keep_their_laws()
     strategies_end();
     fusing_ends();
     narrowed_models_mean_the_same();
+    normal_forms_keep_the_meaning();
     trials_are_determined();
     runs_go_on();
 }

@@ -5,6 +5,7 @@
 mod answering;
 mod beginning;
 mod commands;
+mod compare_law;
 mod complaint_law;
 mod document_law;
 mod document_reading;
@@ -25,6 +26,7 @@ pub use commands::narrow::narrower_models_mean_the_same;
 pub use commands::reduce::written_models_mean_the_same;
 pub use commands::resume::good_snapshots_are_printed_again;
 pub use commands::save::saved_runs_are_resumed;
+pub use compare_law::compared_models_are_as_answered;
 pub use complaint_law::{readable_models_are_reduced, texts_have_one_complaint};
 pub use document_law::{
     documents_have_one_complaint, pairs_have_one_complaint, read_runs_are_answered,

@@ -1,5 +1,6 @@
--- Options of many runs and of runs that are saved, and saved runs that are to go on.
-use Rattle.std.specs.Prelude.{ℕ, ℤ, List, [], replicate}
+-- Options of many runs, of comparisons and of runs that are saved, and saved runs that are to go on.
+use Rattle.std.specs.Prelude.{ℕ, ℤ, pos, List, [], ◌∷◌, replicate}
+use Rattle.command_words.specs.declared.compare_options.CompareOptions.{CompareOptions}
 use Rattle.command_words.specs.declared.replicate_options.ReplicateOptions.{ReplicateOptions}
 use Rattle.command_words.specs.declared.resume_options.ResumeOptions.{ResumeOptions}
 use Rattle.command_words.specs.declared.save_options.SaveOptions.{SaveOptions}
@@ -9,6 +10,14 @@ use Rattle.worked_runs.specs.SavedExamples.{due, saved_clock}
 -- up to 12, so many runs from this seed on, this stride apart
 abbrev pub replicating : ℕ → ℕ → ℕ → ReplicateOptions
 replicating seed runs stride = record { until = 12; seed = seed; events = 100; runs = runs; starts = []; stride = stride }
+
+-- up to this time, so many runs of at most nine events each
+abbrev pub comparing : ℕ → ℕ → CompareOptions
+comparing until runs = record { until = until; seed = 42; events = 9; starts = []; runs = runs }
+
+-- with a starting value
+abbrev pub comparing_from_five : CompareOptions
+comparing_from_five = record { until = 16; seed = 42; events = 9; starts = pos 5 ∷ []; runs = 1 }
 
 abbrev pub saving : ℕ → ℕ → ℕ → List ℤ → SaveOptions
 saving until seed events starts = record { until = until; seed = seed; events = events; starts = starts }

@@ -5,6 +5,7 @@
 
 mod answers;
 mod arguments;
+mod comparisons;
 mod descriptions;
 mod jobs;
 mod made_models;
@@ -23,6 +24,7 @@ pub use arguments::{
     arguments_are_looked_up, options_are_given_once, values_are_read, words_give_arguments,
     words_have_forms,
 };
+pub use comparisons::{names_of_forms_do_not_count, two_models_are_compared};
 pub use descriptions::models_are_described;
 pub use jobs::{
     limits_of_jobs_have_these_numbers, numbers_may_begin_with_zeros, other_words_are_no_job,

@@ -1,5 +1,4 @@
-//! `compare`: whether two models differ in what they declare or in what runs of them show, and the law that models which are
-//! said to differ don't mean the same.
+//! `compare`: whether two models mean the same, as far as their declarations, their normal forms and runs of them show it.
 
 ghost use Rattle.std.specs.Prelude.{◌≡◌, ◌<◌, ◌≤◌, ◌^◌, ◌++◌, IfOk, OnOk, None};
 ghost use Rattle.sig_base.specs.declared.limits.TheConstants.{STOP_MAX, EVENTS_MAX, RUNS_MAX};
@@ -7,7 +6,8 @@ ghost use Rattle.model_core.specs.Static.Reading.{IsValid};
 ghost use Rattle.model_core.specs.Code.Views.{graph_of};
 ghost use Rattle.model_pairs.specs.DeclaredApart.{declared_apart};
 ghost use Rattle.answer_delivery.specs.Delivery.{DeliversSome};
-ghost use Rattle.job_answers.specs.CompareAnswer.{both_lines, declared_text, run_text, answer_of_runs, comparing_answer, compare_answer};
+ghost use Rattle.normal_form.specs.OneForm.{equal_but_names};
+ghost use Rattle.job_answers.specs.CompareAnswer.{both_lines, declared_text, run_text, answer_of_runs, same_or, comparing_answer, OfForms, Compares};
 
 use crate::beginning::refuse_start;
 use crate::commands::replicate::seed_of_run;
@@ -16,6 +16,7 @@ use answer_delivery::{Answer, DeliveryOutcome, End, Failure, deliver};
 use command_words::CompareOptions;
 use model_core::Model;
 use model_pairs::{LinePair, LinesApart, declared_apart, declared_lines_decide, runs_apart};
+use normal_form::{have_one_form, normal_forms_keep_the_meaning};
 use round_trip::validity_is_by_parts;
 use run_control::{AllowedStarts, check_starts, kept_models_can_be_run};
 use sig_base::{NoMemory, Sink, Text, put_bytes, put_counted, put_texts};
@@ -87,6 +88,33 @@ fn compare_runs(
     Ok(Answer::Given(End::Unknown, Text::from_vec(out)))
 }
 
+/// That the models mean the same, where their normal forms are equal but for names, and else what their runs show.
+fn same_or_compare_runs(
+    alloc: Global,
+    first: &AllowedStarts<'_, '_>,
+    second: &AllowedStarts<'_, '_>,
+    options: &CompareOptions,
+) -> Result<Answer, NoMemory>
+    requires first_valid { IsValid (graph_of first.now.model) }
+    requires second_valid { IsValid (graph_of second.now.model) }
+    requires given { first.now.values ≡ options.now.starts }
+    requires one_start { second.now.values ≡ first.now.values }
+    requires soon { options.now.until ≤ STOP_MAX }
+    requires budget { options.now.events ≤ EVENTS_MAX }
+    requires within_maximum { options.now.runs ≤ RUNS_MAX }
+    ensures { IfOk result
+        (OfForms (graph_of first.now.model) (graph_of second.now.model) (λ one other.
+        same_or (equal_but_names one other) (answer_of_runs (graph_of first.now.model)
+        (graph_of second.now.model) options.now 1 options.now.runs))) }
+{
+    let one_form = have_one_form(alloc, first.model(), second.model())?;
+    if one_form {
+        let out = Vec::from_slice(alloc, b"same\n")?;
+        return Ok(Answer::Given(End::Done, Text::from_vec(out)));
+    }
+    compare_runs(alloc, first, second, options)
+}
+
 /// The starting values, for a model that declares the same as one that takes them.
 fn taken_too<'m, 's>(
     first: &AllowedStarts<'_, 's>,
@@ -122,18 +150,20 @@ fn comparing(
     requires budget { options.now.events ≤ EVENTS_MAX }
     requires within_maximum { options.now.runs ≤ RUNS_MAX }
     ensures { IfOk result
-        (λ a. a ≡ comparing_answer (graph_of first.now.model) (graph_of second.now) options.now) }
+        (OfForms (graph_of first.now.model) (graph_of second.now) (λ one other.
+        comparing_answer (graph_of first.now.model) (graph_of second.now) one other options.now)) }
 {
+    normal_forms_keep_the_meaning();
     match declared_apart(alloc, first.model(), second)? {
         Some(lines) => Ok(Answer::Given(End::Differs, declared_text(alloc, &lines)?)),
         None => {
             let others = taken_too(first, second, options.starts.as_slice());
-            compare_runs(alloc, first, &others, options)
+            same_or_compare_runs(alloc, first, &others, options)
         }
     }
 }
 
-/// Compares the models: what they declare, and then run by run what is shown.
+/// Compares the models: what they declare, then their normal forms, and then run by run what is shown.
 pub fn compare<K: Sink>(
     alloc: Global,
     pair: &ModelPair,
@@ -146,11 +176,12 @@ pub fn compare<K: Sink>(
     requires budget { options.now.events ≤ EVENTS_MAX }
     requires within_maximum { options.now.runs ≤ RUNS_MAX }
     ensures { DeliversSome K.seen
-        (λ a. a ≡ compare_answer (graph_of pair.now.first) (graph_of pair.now.second) options.now)
+        (λ a. Compares (graph_of pair.now.first) (graph_of pair.now.second) options.now a)
         ⊥ result output.old output.new }
 {
     validity_is_by_parts();
     kept_models_can_be_run();
+    normal_forms_keep_the_meaning();
     match check_starts(&pair.first, options.starts.as_slice()) {
         Ok(starts) => deliver(output, comparing(alloc, &starts, &pair.second, options)),
         Err(error) => refuse_start(alloc, error),

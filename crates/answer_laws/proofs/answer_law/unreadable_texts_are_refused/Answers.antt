@@ -10,7 +10,7 @@ returns c =
     let of_documents = c.documents_have_one_complaint.ensures in
     let documents : DocumentLaws = record { one = of_documents.one; none = of_documents.none; one_reading = of_documents.one_reading; some = of_documents.some } in
     let of_pairs = c.pairs_have_one_complaint.ensures in
-    let pairs : PairLaws = record { one = of_pairs.one; none = of_pairs.none; one_reading = of_pairs.one_reading; some = of_pairs.some } in
+    let pairs : PairLaws = record { one = of_pairs.one; none = of_pairs.none; one_reading = of_pairs.one_reading; some = of_pairs.some; valid = of_pairs.valid } in
     let of_saved = c.saved_documents_have_one_complaint.ensures in
     let saved : SavedLaws = record { one = of_saved.one; none = of_saved.none; one_reading = of_saved.one_reading; some = of_saved.some } in
     let laws = c.answers_keep_their_laws.ensures in
