@@ -169,6 +169,16 @@ def test_a_later_call_sums_nothing(checkout: SmallCheckout, old_find: bool) -> N
     assert not looks_closely(checkout)
 
 
+def test_a_choice_without_its_files_is_made_again(checkout: SmallCheckout) -> None:
+    """So is one that an older launcher left, and nothing is said of it."""
+    checkout.give_dist()
+    wait_for_clock()
+    answers(checkout)
+    (checkout.top / "out" / "choice.files").unlink()
+    assert looks_closely(checkout)
+    answers(checkout)
+
+
 def change_in_place(checkout: SmallCheckout) -> None:
     """Change one byte, and give the file its old time of writing."""
     path = checkout.top / SOURCE
