@@ -57,6 +57,25 @@ def test_a_double_click_draws_there_and_the_paper_stands_still(page: Browser) ->
     assert {name: after[name] for name in boxes} == boxes
 
 
+def test_the_menu_of_several_events_is_for_all_of_them(page: Browser) -> None:
+    """It lines them up, if it is asked for on one of them; on another event it is for that one alone."""
+    page.click(event("ARRIVE"))
+    page.click(event("LEAVE"), held="Shift")
+    page.until("sigma.app.more.length === 2")
+    ask = (
+        "document.querySelector(values[0]).dispatchEvent("
+        "new MouseEvent('contextmenu', { bubbles: true, cancelable: true, clientX: 300, clientY: 300 }));"
+        "return [...document.querySelectorAll('[role=menuitem]')].map(each => each.textContent)"
+    )
+    words = page.js(ask, event("LEAVE"))
+    assert any("Side by side" in word for word in words), words
+    assert page.js("return sigma.app.more.length") == 2
+    page.keys("Escape")
+    words = page.js(ask, event("OPEN"))
+    assert not any("Side by side" in word for word in words), words
+    assert page.js("return sigma.app.more.length") < 2
+
+
 def test_the_first_event_lies_where_one_pointed(page: Browser) -> None:
     """On an empty paper too; a model that is opened then is shown whole."""
     page.js("sigma.command('new')")
