@@ -15,6 +15,7 @@ MODULE = re.compile(r"^pub mod (\w+)", re.M)
 
 
 WHOLE_PROMISE = Question("whole promise", "sigma", "reduced")
+TWO_CALLS = Question("two calls", "print_and_reduce")
 
 
 @cache
@@ -84,6 +85,26 @@ def by_folder(which: str, question: Question = Question()) -> str:
         for names in rows.values()
     ]
     return table(("modules", "lines"), cells)
+
+
+def part_of(name: str, question: Question) -> str:
+    """Write which definitions of a module are reached, or which aren't, whichever are fewer; nothing if all are."""
+    found = right(question)
+    reached, left = found.reached[name], found.left.get(name, [])
+    if not left:
+        return ""
+    word, names = ("without", left) if len(left) <= len(reached) else ("only", reached)
+    return f" ({word} {', '.join(map(code, names))})"
+
+
+def of_two_calls(_page: Path) -> str:
+    """Write the modules that the law over two calls reaches, in reading order."""
+    found = right(TWO_CALLS)
+    rows = [
+        (code(name), found.modules["believed", name], f"{about(name)}{part_of(name, TWO_CALLS)}")
+        for name in modules("believed", TWO_CALLS)
+    ]
+    return f"{table(('module', 'lines', 'subject'), rows)}\n\nTogether {found.together:,} lines."
 
 
 def besides(_page: Path) -> str:

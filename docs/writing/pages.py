@@ -8,7 +8,7 @@ from collections.abc import Iterator
 from pathlib import Path
 
 from support.places import TOP, kept_files
-from writing import calls, crates, definitions, tests
+from writing import calls, crates, definitions, examples, lab, tests
 from writing.parts import Writer, rewritten
 
 WRITERS: dict[str, Writer] = {
@@ -21,10 +21,15 @@ WRITERS: dict[str, Writer] = {
     "options of commands": calls.options_of_commands,
     "options": calls.options,
     "statuses": calls.statuses,
+    "commands of the lab": lab.table_of_commands,
+    "words of the lab": lab.words_of_commands,
+    "older tools of the lab": lab.older_tools,
+    "vertices": examples.vertices,
     "tests": tests.tests,
     "definitions": definitions.believed,
     "definitions of single crates": definitions.besides,
     "definitions of the whole promise": definitions.of_whole_promise,
+    "definitions of two calls": definitions.of_two_calls,
     "types of the code": definitions.of_code,
 }
 

@@ -7,7 +7,8 @@ from collections.abc import Callable, Iterable, Mapping
 from pathlib import Path
 
 PART = re.compile(r"(<!-- docs/write: (?!end)([^>]+?) -->\n)(.*?)(<!-- docs/write: end -->)", re.S)
-Writer = Callable[[Path], str]
+# A writer of a part takes the page, and the words that stand after the name of the part.
+Writer = Callable[..., str]
 
 
 class UnknownPart(ValueError):
@@ -24,9 +25,10 @@ def rewritten(page: Path, text: str, writers: Mapping[str, Writer]) -> str:
     """
 
     def write(found: re.Match[str]) -> str:
-        if found[2] not in writers:
-            raise UnknownPart(f"{page}: nothing writes a part {found[2]}")
-        return f"{found[1]}\n{writers[found[2]](page).strip()}\n\n{found[4]}"
+        name, _, words = found[2].partition(": ")
+        if name not in writers:
+            raise UnknownPart(f"{page}: nothing writes a part {name}")
+        return f"{found[1]}\n{writers[name](page, *words.split()).strip(chr(10))}\n\n{found[4]}"
 
     return PART.sub(write, text)
 

@@ -18,6 +18,10 @@ from sigma_lab.plan import Plan
 from sigma_lab.report import Report
 
 BANK = str(EXAMPLES / "bank.sigma")
+OLDER_TOOLS = (
+    "batches conflicts-through course enough fit graph histogram join-reports means meets observations place"
+    " replicate-hashed replicate-on report runs-of-part search since sweep tables trace welch whyfault"
+).split()
 Lab = Callable[..., str]
 
 
@@ -41,6 +45,11 @@ def test_each_command_has_a_help(name: str, lab: Lab) -> None:
     about = cli.command_of(name).about
     assert said.startswith(f"usage: sigma-lab {name}") and about in " ".join(said.split())
     assert "--json" in said and "--csv" in said
+
+
+def test_each_older_tool_has_its_command() -> None:
+    found = [tool for name in cli.MODULES for tool in cli.command_of(name).replaces]
+    assert sorted(found) == OLDER_TOOLS
 
 
 @pytest.mark.parametrize("name", cli.MODULES)

@@ -18,6 +18,10 @@ from support.program import Program
 
 SECONDS = 10
 
+# two texts and their runs
+SECONDS_OF_TWO = 20
+COMPARE = ["compare", "--until", "100", "--seed", "1", "--events", "1000", "--runs", "2"]
+
 
 def test_a_long_text(call: Program) -> None:
     """A long text without a fault is accepted in two seconds."""
@@ -81,6 +85,26 @@ def test_certificates(make: Callable[[], Pair], call: Program) -> None:
     """The certificate is checked in ten seconds."""
     original, reduced = make()
     call("certify", original + reduced, seconds=SECONDS).gives(b"sound\n")
+
+
+@pytest.mark.parametrize("make", CERTIFICATES.values(), ids=CERTIFICATES.keys())
+def test_reductions_are_the_same_models(make: Callable[[], Pair], call: Program) -> None:
+    """A model and what was made of it are the same within twenty seconds."""
+    original, reduced = make()
+    made, _, _ = reduced.partition(b"certificate\n")
+    call(COMPARE, original + made, seconds=SECONDS_OF_TWO).gives(b"same\n")
+
+
+@pytest.mark.parametrize("make", [slow_searches.twins, slow_searches.far_twins])
+def test_models_with_twins_are_the_same_as_without(make: Callable[[], Pair], call: Program) -> None:
+    """A model and what its twins are fused to are the same within twenty seconds."""
+    call(COMPARE, b"".join(make()), seconds=SECONDS_OF_TWO).gives(b"same\n")
+
+
+@pytest.mark.parametrize("form", slow_searches.OPERANDS)
+def test_long_models_are_the_same_as_themselves(form: str, call: Program) -> None:
+    """Ranges that move one at a time are found in both models within twenty seconds."""
+    call(COMPARE, slow_searches.rounds(form) * 2, seconds=SECONDS_OF_TWO).gives(b"same\n")
 
 
 @pytest.mark.parametrize("make", [slow_searches.twins, slow_searches.far_twins])

@@ -2,12 +2,16 @@
 
 from __future__ import annotations
 
+import re
 import subprocess
+import sys
 
 import pytest
 
 from support.places import TOP
 
+from writing.examples import vertices
+from writing.lab import cli
 from writing.pages import WRITERS, pages_with_parts
 from writing.parts import UnknownPart, first_sentence, lowered, rewritten, table
 
@@ -36,6 +40,30 @@ def test_an_unknown_part_is_refused() -> None:
     text = "<!-- docs/write: weather -->\n<!-- docs/write: end -->\n"
     with pytest.raises(UnknownPart, match="weather"):
         rewritten(TOP / "README.md", text, WRITERS)
+
+
+def test_vertices_of_an_example() -> None:
+    """Vertices come in the order that is asked for, whole and indented; one that isn't there is refused."""
+    page = TOP / "docs/use/patterns.md"
+    text = vertices(page, "desk", "LEAVE", "OPEN")
+    link = "[`examples/desk.sigma`](../../examples/desk.sigma)"
+    assert text.startswith(f"From {link}:\n\n    vertex LEAVE {{\n")
+    assert re.findall("^ {4}(vertex|})", text, re.M) == ["vertex", "}", "vertex", "}"]
+    assert text.endswith("\n    }")
+    with pytest.raises(ValueError, match="no vertex OPE"):
+        vertices(page, "desk", "OPE")
+
+
+@pytest.mark.parametrize("name", list(cli.MODULES))
+def test_each_option_of_the_lab_is_on_its_page(name: str) -> None:
+    """What the help of a command names stands in the command's section."""
+    words = [sys.executable, "-m", "sigma_lab", name, "--help"]
+    ran = subprocess.run(words, cwd=TOP / "lab", capture_output=True, text=True, check=True)
+    options = set(re.findall(r"(?<![\w-])--?[a-z][a-z-]*", ran.stdout)) - {"-h", "--help"}
+    page = (TOP / "docs/use/sigma-lab.md").read_text()
+    section = page.partition(f"### {name}\n")[2].partition("\n### ")[0]
+    assert {"--json", "--csv"} <= options
+    assert options - {"--output"} <= set(re.findall(r"--?[a-z][a-z-]*", section))
 
 
 def test_the_forms_of_parts() -> None:

@@ -14,4 +14,6 @@ mod printing;
 #[cfg(test)]
 mod steps;
 #[cfg(test)]
+mod sums;
+#[cfg(test)]
 mod uses;

@@ -112,6 +112,11 @@ def repository_sources() -> dict[str, str]:
     return {name: path.read_text() for path, name in names.items() if wanted.fullmatch(name)}
 
 
+def module_of(path: str) -> str:
+    """Answer the module that a file of definitions has."""
+    return path.removeprefix("crates/").removesuffix(".antt")
+
+
 def shown(believed: int, whole: int) -> str:
     """Write how many lines of a module are meant."""
     if believed == 0:
@@ -121,9 +126,14 @@ def shown(believed: int, whole: int) -> str:
 
 @dataclass
 class Right:
-    """What the clauses reach: modules with their lines, and names of the code by their files."""
+    """What the clauses reach: modules with their lines, and names of the code by their files.
+
+    Of a module of which only a part is reached, `reached` and `left` have the names of its definitions.
+    """
 
     modules: dict[tuple[str, str], str] = field(default_factory=dict)
+    reached: dict[str, list[str]] = field(default_factory=dict)
+    left: dict[str, list[str]] = field(default_factory=dict)
     code: dict[str, set[str]] = field(default_factory=dict)
     together: int = 0
     of_code: int = 0
@@ -152,13 +162,16 @@ def right_lists(
         if block.file.endswith(".antt"):
             lines[block.file] += block.lines
             reached[block.file] += block.lines if is_reached else 0
+            if block.kind != "module":
+                parts = right.reached if is_reached else right.left
+                parts.setdefault(module_of(block.file), []).append(block.name)
         elif is_reached:
             right.of_code += block.lines
             if block.kind in ("type", "trait"):
                 right.code.setdefault(block.file, set()).add(block.name)
 
     for path in lines:
-        name = path.removeprefix("crates/").removesuffix(".antt")
+        name = module_of(path)
         whole = lines[path] + sources.heads[path]
         believed = reached[path] + sources.heads[path] if reached[path] else 0
         right.together += believed

@@ -1,0 +1,4 @@
+pub mod RoomForSums
+pub mod NarrowNumbers
+pub mod ScaledNumbers
+pub mod DivisorsFit

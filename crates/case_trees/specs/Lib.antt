@@ -1,0 +1,4 @@
+pub mod Rooms
+pub mod NumberViews
+pub mod TermViews
+pub mod Views
