@@ -1,3 +1,4 @@
 pub mod InputRead
 pub mod Performing
 pub mod TopCall
+pub mod Comparing

@@ -183,13 +183,19 @@ module _ {S K E : Type 0} (source : S → Inlet) (sink : K → Outlet) (errors :
     reply_of_job : (job : Job) → job_of words ≡ Some job → (a : Answer) → (other : Job) → job_of words ≡ Some other → RepliesToInput (reading_of other) (source i) a → RepliesToInput (reading_of job) (source i) a
     reply_of_job job asked a other is answer = subst (λ (x : Job). RepliesToInput (reading_of x) (source i) a) (same_Some _ _ (sym is ∙ asked)) answer
 
+    -- what the asked job gave is such for what the input had
+    pub written_is_such : (job : Job) → job_of words ≡ Some job → (reading : Reading) → reading_of job ≡ reading → (end : End) (IsSuch : List ℕ → List ℕ → Type 0)
+        → ((text bytes : List ℕ) → Answers reading text (Given end bytes) → IsSuch text bytes) → ForJob words (λ reading. WritesAnswer source sink reading end i j o p)
+        → IfSome (text_of (limit_of reading) (source i).left) (λ text. (out : List ℕ) × IsSuch text out × Grows out)
+    written_is_such job asked reading is end IsSuch law done =
+        let answer = subst (λ (r : Reading). RepliesToInput r (source i) (Given end done.2.bytes)) is (reply_of_job job asked (Given end done.2.bytes) done.0 done.1 done.2.answer) in
+        of_input_text (text_of (limit_of reading) (source i).left) answer.text (λ text. (out : List ℕ) × IsSuch text out × Grows out) answer.of_input (done.2.bytes, law answer.text done.2.bytes answer.answers, done.2.output_grown)
+
     -- what a job on a model gives is such for what the input had
     given_is_such : (job : Job) (of_model : ModelJob) → reading_of job ≡ readings.Model of_model → (IsSuch : List ℕ → List ℕ → Type 0) → GivesSuch of_model IsSuch
         → (status : Status) → Ends source sink errors words i j o p e f status → job_of words ≡ Some job → status ≡ statuses.Done → IfSome (source i).left (λ text. (out : List ℕ) × IsSuch text out × Grows out)
     given_is_such job of_model is IsSuch law status h asked is_done =
-        let done = (subst (λ (s : Status). Ends source sink errors words i j o p e f s) is_done h).0 in
-        let answer = subst (λ (reading : Reading). RepliesToInput reading (source i) (Given ends.Done done.2.bytes)) is (reply_of_job job asked (Given ends.Done done.2.bytes) done.0 done.1 done.2.answer) in
-        of_input_text (source i).left answer.text (λ text. (out : List ℕ) × IsSuch text out × Grows out) answer.of_input (done.2.bytes, law answer.text done.2.bytes ends.Done answer.answers, done.2.output_grown)
+        written_is_such job asked (readings.Model of_model) is ends.Done IsSuch (λ text bytes. law text bytes ends.Done) (subst (λ (s : Status). Ends source sink errors words i j o p e f s) is_done h).0
 
     -- what `certify` finds sound means the same
     certified_means : SoundMeansTheSame → (status : Status) → Ends source sink errors words i j o p e f status → job_of words ≡ Some jobs.Certify → status ≡ statuses.Done → IfSome (source i).left Certifies

@@ -1,3 +1,4 @@
 pub mod StatusTable
 pub mod Promises
+pub mod Comparisons
 pub mod Inner

@@ -5,6 +5,7 @@ ghost use Rattle.std.specs.IoError.{error_kind};
 ghost use Rattle.std.specs.Process.{exit_status};
 ghost use Rattle.std.specs.String.{string_bytes};
 ghost use Rattle.answer_delivery.specs.Statuses.{exit_status_of, failure_line};
+ghost use Rattle.sigma_top.specs.Comparisons.{ComparesModels};
 ghost use Rattle.sigma_top.specs.Promises.{PromisesOf};
 ghost use Rattle.sigma_top.specs.StatusTable.{ReportsLine, Ends};
 
@@ -47,6 +48,11 @@ pub fn program<S: Source, K: Sink, E: Sink>(
     ensures promises { IfOk words
         (λ words. PromisesOf (map string_bytes (vec_items words)) (exit_status result)
         (S.seen input.old) (K.seen output.old) (K.seen output.new)) }
+
+    // So does what the answers of `compare` mean: where the exit status is 0, two models that it compared mean the same.
+    ensures compared { IfOk words
+        (λ words. ComparesModels (λ status. exit_status result ≡ exit_status_of status)
+        (map string_bytes (vec_items words)) (S.seen input.old) (K.seen output.old) (K.seen output.new)) }
 
     // Without words nothing is read, and nothing but the line is written.
     ensures untouched { OnErr words ((input.new ≡ input.old) × (output.new ≡ output.old)) }

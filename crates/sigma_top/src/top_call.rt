@@ -10,6 +10,7 @@ ghost use Rattle.command_words.specs.Readings.{reading_of, limit_of};
 ghost use Rattle.model_core.specs.EventGraph.{EventGraph};
 ghost use Rattle.model_core.specs.Static.Reading.{Reads};
 ghost use Rattle.job_answers.specs.Answers.{MayStopShort};
+ghost use Rattle.sigma_top.specs.Comparisons.{ComparesModels};
 ghost use Rattle.sigma_top.specs.Promises.{IsOfAnswer, KeepsPromises};
 ghost use Rattle.sigma_top.specs.StatusTable.{text_of, ReportsLine, Ends};
 ghost use Rattle.sigma_top.specs.Inner.CallSteps.{AnswersWords, Reports};
@@ -18,9 +19,10 @@ use crate::text_taking::{TakenText, take_text};
 use answer_delivery::{DeliveryOutcome, Failure, Status, deliver, too_long_answer};
 use command_words::{WordsError, jobs_keep_their_limits};
 use job_answers::{
-    answer_text, answers_keep_their_laws, fused_models_mean_the_same,
-    narrower_models_mean_the_same, read_runs_are_answered, readable_models_are_reduced,
-    saved_runs_are_resumed, sound_documents_mean_the_same, written_models_mean_the_same,
+    answer_text, answers_keep_their_laws, compared_models_are_as_answered,
+    fused_models_mean_the_same, narrower_models_mean_the_same, read_runs_are_answered,
+    readable_models_are_reduced, saved_runs_are_resumed, sound_documents_mean_the_same,
+    written_models_mean_the_same,
 };
 use sig_base::{Sink, Source, put};
 use std::alloc::Global;
@@ -114,6 +116,10 @@ pub fn sigma<S: Source, K: Sink, E: Sink>(
     // field each.
     ensures promises { KeepsPromises (λ status. result ≡ status) (map string_bytes words.now)
         (S.seen input.old) (K.seen output.old) (K.seen output.new) }
+
+    // What the answers of `compare` mean for the two models that were read: `same`, `differ` and `unknown`, one field each.
+    ensures compared { ComparesModels (λ status. result ≡ status) (map string_bytes words.now)
+        (S.seen input.old) (K.seen output.old) (K.seen output.new) }
 {
     written_models_mean_the_same();
     fused_models_mean_the_same();
@@ -122,6 +128,7 @@ pub fn sigma<S: Source, K: Sink, E: Sink>(
     readable_models_are_reduced();
     saved_runs_are_resumed();
     read_runs_are_answered();
+    compared_models_are_as_answered();
     jobs_keep_their_limits();
     let answered = answer_words(alloc, words, input, output);
     report(answered, errors)
