@@ -65,6 +65,22 @@ def page_to_try() -> Path:
     return PAGE / "out/sigma.html"
 
 
+@pytest.mark.parametrize("words", [("--page", "none.html"), ("--page=none.html",)])
+def test_a_page_is_named_from_where_one_stands(
+    words: tuple[str, ...], program: Program, tmp_path: Path
+) -> None:
+    """A file without a folder is one of the folder that the command is given in."""
+    ran = subprocess.run(
+        ["env", f"SIGMA={program.path}", PAGE / "test", "browsers", *words],
+        cwd=tmp_path,
+        capture_output=True,
+        timeout=LONGEST,
+        check=False,
+    )
+    assert ran.stderr.decode() == f"page/test: no page is {tmp_path / 'none.html'}\n"
+    assert ran.returncode == 1
+
+
 @pytest.mark.browsers
 def test_in_browsers(program: Program) -> None:
     """The page is used in browsers by mouse and keys, and answers as the program."""

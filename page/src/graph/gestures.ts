@@ -27,9 +27,7 @@ export class Gestures {
       if (part && field && this.edit(part.picked, field, event.target as Element)) return;
       if (part) { events.open?.(part.picked); return; }
       if (canvas.is_grouped) return;
-      // What one draws on stands still.
-      view.is_own = true;
-      canvas.stands = !canvas.scene.nodes.size;
+      canvas.stand_still();
       events.create?.(view.point(event as MouseEvent));
     });
     svg.addEventListener("contextmenu", event => {

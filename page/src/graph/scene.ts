@@ -142,7 +142,7 @@ export class Scene {
     return all.length ? { x: Math.max(...all.map(box => box.x + box.width / 2)) + 90, y: all[0].y } : { x: 0, y: 0 };
   }
 
-  /** The free place that is nearest to one. */
+  /** The free place that is nearest to one; where none is near, below all. */
   free_place(size: { width: number; height: number }, boxes: readonly Box[] = [...this.nodes.values()].map(node => node.box), near: Point = { x: 0, y: 0 }): Point {
     const is_free = (at: Point): boolean => !boxes.some(box => touch({ ...at, width: size.width, height: size.height }, box, 24));
     for (let ring = 0; ring < 60; ring++)
@@ -150,7 +150,7 @@ export class Scene {
         const angle = (k / Math.max(1, ring * 8)) * 2 * Math.PI, at = { x: Math.round(near.x + Math.sin(angle) * ring * 32), y: Math.round(near.y + Math.cos(angle) * ring * 32) };
         if (is_free(at)) return at;
       }
-    return near;
+    return { x: near.x, y: Math.round(Math.max(...boxes.map(box => box.y + box.height / 2)) + 25 + size.height / 2) };
   }
 
   private line(bundle: Bundle, number: number): Line {

@@ -3,12 +3,14 @@ import { App } from "../app";
 import { ExperimentsTab } from "../experiments/experiments_tab";
 import { Inspector } from "../forms/inspector";
 import type { LayOut } from "../graph/laying";
+import type { Point } from "../graph/layout";
 import { ReduceTab } from "../reduce/reduce_tab";
 import { EMPTY } from "../store/store";
 import { read_places, write_places } from "../text/edits";
 import { download } from "../ui/dom";
 import { Guide } from "../ui/guide";
 import { commands, keys_shown, note, open_palette } from "../ui/menu";
+import { Clipboard } from "./clipboard";
 import { Drawing } from "./drawing";
 import { Files } from "./files";
 import { open_gallery } from "./gallery";
@@ -20,7 +22,7 @@ import { Tabs } from "./tabs";
 import { open_versions } from "./versions";
 
 export interface Makers {
-  app: App; files: Files; drawing: Drawing; inspector: Inspector; experiments: ExperimentsTab; reduce: ReduceTab; tabs: Tabs; guide: Guide; lay_out: LayOut;
+  app: App; files: Files; drawing: Drawing; clipboard: Clipboard; inspector: Inspector; experiments: ExperimentsTab; reduce: ReduceTab; tabs: Tabs; guide: Guide; lay_out: LayOut;
   redraw(fit: boolean): Promise<void>; turn_theme(): void; run(): void;
 }
 
@@ -34,14 +36,19 @@ export function palette(app: App): void {
   ]);
 }
 
-export function add_commands({ app, files, drawing, inspector, experiments, reduce, tabs, guide, lay_out, redraw, turn_theme, run }: Makers): void {
-  const { store } = app, has_model = () => store.shown !== null, has_pick = () => app.picked !== null, is_accepted = () => store.verdict.state === "accepted";
+export function add_commands({ app, files, drawing, clipboard, inspector, experiments, reduce, tabs, guide, lay_out, redraw, turn_theme, run }: Makers): void {
+  const { store } = app, has_model = () => store.shown !== null, has_pick = () => app.picked !== null, has_event = () => app.picked?.kind === "event", is_accepted = () => store.verdict.state === "accepted";
   const picture_name = (ending: string) => (store.doc.file || "model.sigma").replace(/\.\w+$/, ending);
   const graph = () => app.canvas.svg_text(picture_style(GRAPH_RULES));
   const lay_out_text = () => {
     if (store.verdict.state !== "accepted") return;
     store.edit(store.verdict.model.text, "Lay out the text");
     note("The text is laid out as the program prints it. Its comments are gone.", "", { title: "Undo", run: () => store.undo() });
+  };
+  const on_paper = (place?: Point) => {
+    if (!place) return null;
+    app.canvas.stand_still();
+    return app.canvas.view.point({ clientX: place.x, clientY: place.y });
   };
   const forget_places = () => { if (Object.keys(read_places(store.doc.text)).length) store.edit(write_places(store.doc.text, {}), "Lay out the graph"); };
   const turn = () => { app.canvas.sideways = !(app.canvas.sideways ?? app.canvas.is_wide); forget_places(); void redraw(true); };
@@ -58,9 +65,12 @@ export function add_commands({ app, files, drawing, inspector, experiments, redu
     { id: "undo", title: "Undo", keys: "Ctrl+Z", icon: "undo", group: "Edit", can: () => store.undo_label !== null, run: () => store.undo() },
     { id: "redo", title: "Redo", keys: "Ctrl+Y", icon: "redo", group: "Edit", can: () => store.redo_label !== null, run: () => store.redo() },
     { id: "versions", title: "Versions …", icon: "copy", group: "Edit", run: () => open_versions(app) },
-    { id: "new-event", title: "New event", keys: "N", icon: "plus", group: "Edit", run: () => void drawing.create(null) },
-    { id: "new-edge", title: "New edge from here …", keys: "E", icon: "edge", group: "Edit", can: () => app.picked?.kind === "event", run: () => drawing.ask_edge() },
-    { id: "duplicate", title: "Duplicate", keys: "Ctrl+D", icon: "copy", group: "Edit", can: () => app.picked?.kind === "event", run: () => void drawing.duplicate() },
+    { id: "new-event", title: "New event", keys: "N", icon: "plus", group: "Edit", run: place => void drawing.create(on_paper(place)) },
+    { id: "new-edge", title: "New edge from here …", keys: "E", icon: "edge", group: "Edit", can: has_event, run: () => drawing.ask_edge() },
+    { id: "cut", title: "Cut", keys: "Ctrl+X", icon: "cut", group: "Edit", can: has_event, run: () => void clipboard.take(true) },
+    { id: "copy", title: "Copy", keys: "Ctrl+C", icon: "copy", group: "Edit", can: has_event, run: () => void clipboard.take(false) },
+    { id: "paste", title: "Paste", keys: "Ctrl+V", icon: "paste", group: "Edit", run: place => void clipboard.put(on_paper(place)) },
+    { id: "duplicate", title: "Duplicate", keys: "Ctrl+D", icon: "copies", group: "Edit", can: has_event, run: () => void drawing.duplicate() },
     ...([["align-row", "Side by side"], ["align-column", "Below each other"], ["spread-row", "Equal spaces, side by side"], ["spread-column", "Equal spaces, below each other"]] as const).map(([id, title]) =>
       ({ id, title, group: "Edit", can: () => app.more.length > 1, run: () => app.canvas.align(app.more, id.replace("align-", "") as "row") })),
     { id: "edit-form", title: "Edit in the form", keys: "F2", icon: "form", group: "Edit", can: has_pick, run: () => { app.show_part("form", false); inspector.focus_first(); } },

@@ -8,7 +8,7 @@ import { commands, dialog, keys_shown } from "../ui/menu";
 
 const MOUSE = [
   ["Double-click", "a new event there"], ["Drag an event", "moves it; its place is kept in the text"], ["Drag its +", "a new edge; on empty paper also a new event"],
-  ["Shift + drag", "selects several"], ["Double-click a word", "edits it there"], ["Right click", "what can be done there"], ["Drag, wheel", "moves the paper"], ["Ctrl + wheel, pinch", "zooms"],
+  ["Shift + drag", "selects several"], ["Double-click a word", "edits it there"], ["Right click", "what can be done there"], ["Ctrl+C, Ctrl+V", "copies of the picked events, with the edges among them; also into another window or an editor"], ["Drag, wheel", "moves the paper"], ["Ctrl + wheel, pinch", "zooms"],
   ["Arrow keys", "lead along the edges, and to the next event"], ["Letters, /", "to the event of that name; find"], ["Alt + arrow keys", "move the event"],
 ];
 const EXPRESSIONS = [

@@ -1,5 +1,5 @@
 // Parts of models that come again and again: variables, tables and events to put in, with names that are free.
-import { add_variable, apply_edits, free_name } from "./edits";
+import { add_variable, apply_edits, free_name, version_two } from "./edits";
 import { parts_of, tokens_of } from "./places";
 
 export interface Template { id: string; title: string; does: string; names: readonly string[]; vars: readonly string[]; events: string; first: string }
@@ -48,6 +48,6 @@ export function with_template(text: string, template: Template): { text: string;
   const parts = parts_of(now), last = parts.vertices[parts.vertices.length - 1], begin = parts.vertices[0];
   const edge = `  schedule ${first};\n`, at = now.lastIndexOf("\n", begin.close - 1) + 1, own_line = /^\s*$/.test(now.slice(at, begin.close));
   now = apply_edits(now, [{ from: last.to, to: last.to, text: "\n" + filled(template.events) }, own_line ? { from: at, to: at, text: edge } : { from: begin.close, to: begin.close, text: `${edge.trim()} ` }]);
-  if (/\bafter draw\b/.test(template.events) && !/^\s*version\s+2\s*;/m.test(now.replace(/#[^\n]*/g, ""))) now = "version 2;\n" + now.replace(/^version 1;\n/m, "");
+  if (/\bafter draw\b/.test(template.events)) now = apply_edits(now, version_two(now));
   return { text: now, first };
 }
