@@ -20,6 +20,13 @@ FEWEST = {
 }
 """The documented fewest runs, by method or by law; else 10."""
 
+SEEDS = {
+    "its own": "a stride of its own",
+    "0x9e3779b97f4a7c15": "one stride for all",
+    "independent": "independent seeds",
+}
+"""How the seeds of the runs of a series are given."""
+
 LAWS = ("normal", "exponential", "lognormal, cv 3", "large on 3 % of runs")
 
 
@@ -57,9 +64,21 @@ def errors() -> str:
     return "\n".join(lines)
 
 
+def seeds() -> str:
+    """Intervals by how seeds are given: a row for each number of streams and runs."""
+    shares = {(row["method"], row["law"], row["runs"]): row["share"] for row in kept("strides")}
+    lines = [f"| streams | runs | {' | '.join(SEEDS.values())} |", "|---|---|" + "---|" * len(SEEDS)]
+    for streams in (1, 5, 20, 64):
+        law = f"{streams} streams, 1 draws each"
+        for runs in ("20", "100", "1000"):
+            cells = " | ".join(shares[method, law, runs] for method in SEEDS)
+            lines.append(f"| {streams} | {runs} | {cells} |")
+    return "\n".join(lines)
+
+
 def filled(text: str) -> str:
     """The page with its tables."""
-    for name, table in (("coverage", coverage()), ("errors", errors())):
+    for name, table in (("coverage", coverage()), ("errors", errors()), ("seeds", seeds())):
         part = re.compile(rf"<!-- {name} -->\n.*?<!-- end -->", re.S)
         text = part.sub(lambda found: f"<!-- {name} -->\n{table}\n<!-- end -->", text)
     return text

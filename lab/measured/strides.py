@@ -1,18 +1,16 @@
 """How often intervals of 95 per cent hold for runs whose seeds are a stride apart.
 
     python3 lab/measured/strides.py [--series N] [STRIDE ..]
-    python3 lab/measured/strides.py --choose NUMBER
 
-A run's number is the sum of draws, some of each of its streams, and a series of runs has Student's interval.  `STRIDE`
-is that of the lab if none is given.  `--choose` tries so many strides, the odd hashes of 1, 2, .., and prints the best
-by how far the variance of a mean is from that of independent runs.
+A run's number is the sum of draws, some of each of its streams, and a series of runs has Student's interval.  Without a
+STRIDE each series has its own, as in the lab; with some, all series have the same one.
 """
 
 from __future__ import annotations
 
 import argparse
 import sys
-from collections.abc import Iterator
+from collections.abc import Iterable, Iterator
 from pathlib import Path
 
 import numpy as np
@@ -28,9 +26,9 @@ from sigma_lab import seeds  # noqa: E402
 
 Words = NDArray[np.uint64]
 
-SERIES = 10_000
-STREAMS = (1, 2, 5, 10, 20)
-RUNS = (5, 10, 20, 100)
+SERIES = 5000
+STREAMS = (1, 2, 5, 10, 20, 64)
+RUNS = (5, 10, 20, 100, 1000)
 DRAWS = (1, 2)
 VALUES = 1000  # a draw is from 0 to 999
 
@@ -66,11 +64,11 @@ def sums(seed: Words, streams: tuple[int, ...], count: int) -> dict[int, Floats]
     return made
 
 
-def seeds_of(stride: int, series: int, runs: int) -> Words:
-    """The seeds of series 0, 1, ..: a row for each, a column for each run."""
-    first = np.array([seeds.spawn(number) for number in range(series)], dtype=np.uint64)
-    apart = np.arange(runs, dtype=np.uint64) * np.uint64(stride)
-    return first[:, None] + apart[None, :]
+def seeds_of(strides: Iterable[int], runs: int) -> Words:
+    """The seeds of series 0, 1, .. with these strides: a row for each, a column for each run."""
+    apart = np.array(list(strides), dtype=np.uint64)
+    first = np.array([seeds.spawn(number) for number in range(len(apart))], dtype=np.uint64)
+    return first[:, None] + np.arange(runs, dtype=np.uint64) * apart[:, None]
 
 
 def independent(series: int, runs: int) -> Words:
@@ -108,39 +106,19 @@ def measured(name: str, seed: Words) -> list[Row]:
     return rows
 
 
-def furthest(stride: int, series: int, count: int, runs: int) -> float:
-    """How far the variance of a mean is from that of independent runs, at the worst."""
-    worst = 0.0
-    for streams, numbers in sums(seeds_of(stride, series, runs), STREAMS, count).items():
-        variance = streams * count * (VALUES**2 - 1) / 12
-        here = [excess(numbers[:, :size], variance) for size in RUNS if size <= runs]
-        worst = max(worst, *(abs(each - 1) for each in here))
-    return worst
-
-
-def choose(number: int) -> None:
-    """Prints the best strides: first by few series, and then the best of these by many."""
-    every = [seeds.mix(k) | 1 for k in range(1, number + 1)]
-    first = sorted(every, key=lambda stride: furthest(stride, 1000, 1, 20))
-    for stride in first[: max(1, number // 10)]:
-        worst = [furthest(stride, 10_000, count, 100) for count in DRAWS]
-        print(f"{stride:#018x}", *(f"{each:.3f}" for each in worst), flush=True)
-
-
 def main() -> None:
     """Measures what the words ask for, and keeps it."""
     parser = argparse.ArgumentParser(description="How often intervals of runs hold, by stride.")
     add = parser.add_argument
     add("--series", type=int, default=SERIES, help=f"how many series ({SERIES})")
-    add("--choose", type=int, metavar="NUMBER", help="try so many strides, and keep nothing")
     add("strides", nargs="*", type=lambda word: int(word, 0), metavar="STRIDE")
     asked = parser.parse_args()
-    if asked.choose:
-        choose(asked.choose)
-        return
-    for stride in asked.strides or [seeds.STRIDE]:
-        keep("strides", measured(f"{stride:#018x}", seeds_of(stride, asked.series, max(RUNS))))
+    for stride in asked.strides:
+        same = [stride] * asked.series
+        keep("strides", measured(f"{stride:#018x}", seeds_of(same, max(RUNS))))
     if not asked.strides:
+        own = map(seeds.stride, range(asked.series))
+        keep("strides", measured("its own", seeds_of(own, max(RUNS))))
         keep("strides", measured("independent", independent(asked.series, max(RUNS))))
 
 

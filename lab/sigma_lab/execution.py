@@ -24,7 +24,9 @@ Made = TypeVar("Made")
 Advance = Callable[[int], None]
 
 _SECONDS = 0.4
-"""How long a lot of runs takes, about: short enough to show progress, long enough to make starting cheap."""
+"""How long a lot of runs takes, about: short enough to show progress."""
+_LEAST_SECONDS = 0.03
+"""How long a lot takes at least, about, so that starting a process costs little beside it."""
 _MOST_OF_CALL = 65536
 _LOTS_OF_WORKER = 8
 
@@ -160,7 +162,10 @@ class _Growing:
             if left <= 0:
                 return None
             even = -(-left // (2 * self._workers))
-            size = int(max(1, min(even, int(self._rate * _SECONDS) or 4, _MOST_OF_CALL)))
+            wanted = float(min(even, 4))
+            if self._rate:
+                wanted = max(min(even, self._rate * _SECONDS), self._rate * _LEAST_SECONDS)
+            size = int(min(max(1, wanted), left, _MOST_OF_CALL))
             lot = self._number, (self._at, size), size
             self._at += size
             self._number += 1

@@ -24,6 +24,7 @@ Stated = float | tuple[float, float]
 """The greatest value of a run, or the least and the greatest."""
 
 _HUGE = 1e250  # stands for infinity while formulas are computed
+_NO_LIMIT = 2**40  # the most events of a run: a range that no counter can leave limits nothing
 _MOST_TERMS = 12
 _NOT_MONOTONE = re.compile(r"\babs\b|%|//|<>|!=|(?<![<>])=")
 
@@ -61,7 +62,7 @@ class Ranges:
         declared = {
             each.name: (0.0, 1.0)
             if each.low is None or each.high is None
-            else (float(each.low), float(each.high))
+            else (_limit(each.low), _limit(each.high))
             for each in Model.from_text(text).graph.variables
         }
         return cls(declared, ticks, stated)
@@ -152,6 +153,11 @@ def check_inside(numbers: NDArray[Any], bounds: Bounds, label: str) -> None:
         raise InputError(
             f"{label}: runs have {low:g} to {high:g}, which is beyond the range {bounds[0]:g} to {bounds[1]:g}"
         )
+
+
+def _limit(end: int) -> float:
+    """An end of a declared range, which is infinite if it is out of reach."""
+    return math.copysign(math.inf, end) if abs(end) >= _NO_LIMIT else float(end)
 
 
 def _pair(stated: Stated, least: float) -> Bounds:

@@ -85,29 +85,17 @@ def _words(command: str, plan: Plan, until: int) -> list[str]:
 class _Runs:
     """Makes a lot of neighbouring runs of a series: what a worker does."""
 
-    def __init__(self, text: str, words: list[str], base: int, timeout: float | None) -> None:
-        self._text, self._words, self._base, self._timeout = text, words, base, timeout
+    def __init__(self, text: str, plan: Plan, until: int, first_run: int) -> None:
+        self._text, self._seed, self._first, self._timeout = text, plan.seed, first_run, plan.timeout
+        self._words = [*_words("replicate", plan, until), f"--stride={seeds.stride(plan.seed)}"]
 
     def __call__(self, lot: tuple[int, int]) -> list[report_text.Columns]:
-        first, runs = lot
-        seed = (self._base + first * seeds.STRIDE) % 2**64
-        if not program.has_stride():
-            return _a_process_each(self._call, seed, runs)
-        return self._call(f"--seed={seed}", f"--runs={runs}", f"--stride={seeds.STRIDE}")
-
-    def _call(self, *words: str) -> list[report_text.Columns]:
+        at, runs = lot
+        words = [f"--seed={seeds.spawn(self._seed, self._first + at)}", f"--runs={runs}"]
         data = program.call([*self._words, *words], self._text, timeout=self._timeout)
         if data == report_text.HEADER + b"\n":
             raise InputError("the model watches nothing")
         return report_text.read(data, "sigma replicate")
-
-
-def _a_process_each(call: Any, seed: int, runs: int) -> list[report_text.Columns]:
-    """The runs that `--stride` would make, for a program that lacks it: a process for each."""
-    made: list[report_text.Columns] = []
-    for run in range(runs):
-        made += call(f"--seed={(seed + run * seeds.STRIDE) % 2**64}", "--runs=1")
-    return made
 
 
 def _joined(parts: Sequence[report_text.Columns]) -> report_text.Columns:
@@ -166,7 +154,6 @@ def replicate(
     """
     first = whole("first_run", first_run, 1, seeds.MOST_RUNS)
     text = ready(model, fill=fill)
-    base = seeds.spawn(plan.seed, first)
     attrs = Provenance(
         hashlib.sha256(program.as_bytes(text)).hexdigest(),
         program.checksum(),
@@ -179,7 +166,7 @@ def replicate(
     )
     made: list[Report] = []
     for until in (plan.warm_up, plan.until) if plan.warm_up else (plan.until,):
-        task = _Runs(text, _words("replicate", plan, until), base, plan.timeout)
+        task = _Runs(text, plan, until, first)
         title = f"{progress} (warm-up)" if progress and plan.warm_up > until else progress
         runs = len(made[0]) if made else plan.runs
         lots, stopped = execution.runs_shared_out(task, runs, plan, progress=title)

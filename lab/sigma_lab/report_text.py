@@ -11,48 +11,24 @@ from __future__ import annotations
 
 import re
 from collections.abc import Callable, Iterable, Sequence
-from dataclasses import dataclass
 from fractions import Fraction
+from functools import cached_property
 from itertools import chain, repeat
 from operator import le, methodcaller, mul
 from typing import NoReturn
 
 from .errors import BadReport
+from .report_columns import COLUMNS, ITEM, OUTCOMES, Columns, Number, columns_of
 
-Number = int | Fraction
 Fields = Sequence[bytes]
 
 HEADER = b"run,seed,outcome,time,item,least,greatest,last,area,count"
-COLUMNS = ("least", "greatest", "last", "area", "count")
-OUTCOMES = (b"ended", b"stopped", b"fault", b"budget")
 _VARIABLE = ("least", "greatest", "last", "area")
 _WITH_DECIMALS = ("last", "area")
 _MOST_TIME, _MOST_COUNT, _MOST_SEED = 2**48, 2**40, 2**64 - 1
 _DECIMAL = re.compile(rb"-?(?:0|[1-9]\d{0,39})\.\d{1,40}")
 _WHOLE = re.compile(rb"0|-?[1-9]\d{0,39}")
-_ITEM = re.compile(rb"[A-Za-z][A-Za-z0-9_]{0,31}(?:\[(?:0|[1-9]\d{0,15})\])?")
 _MARKS = (b"\xef\xbb\xbf", b"\xfe\xff", b"\xff\xfe")
-
-
-@dataclass
-class Columns:
-    """The runs of a report, by column.
-
-    Attributes
-    ----------
-    items : tuple of str
-        The watched items.
-    seeds, outcomes, times : list
-        A value for each run.
-    values : list of dict
-        For each item its columns by name, with a value for each run.  A column that an item hasn't isn't there.
-    """
-
-    items: tuple[str, ...]
-    seeds: list[int]
-    outcomes: list[str]
-    times: list[Number]
-    values: list[dict[str, list[Number]]]
 
 
 def read(data: bytes, source: str = "", line: int = 1) -> list[Columns]:
@@ -76,36 +52,53 @@ def read(data: bytes, source: str = "", line: int = 1) -> list[Columns]:
         raise BadReport("is empty", None, source)
     if data.startswith(_MARKS):
         raise BadReport("the report begins with a byte order mark", line, source)
-    lines = data.split(b"\n")
-    if lines.pop() != b"":
-        cut = line + len(lines)
+    if not data.endswith(b"\n"):
+        cut = line + data.count(b"\n")
         raise BadReport("the last line has no line end, so the report is cut off", cut, source)
-    if lines[0] == HEADER + b"\r":
+    if data.startswith(HEADER + b"\r\n"):
         text = "the line ends in CR LF, not in a line feed alone (tr -d '\\r' takes the CR away)"
         raise BadReport(text, line, source)
-    if lines[0] != HEADER:
+    if not data.startswith(HEADER + b"\n"):
         raise BadReport("this is no report: its header is another one", line, source)
-    starts = [number for number, text in enumerate(lines) if text == HEADER]
-    return [
-        _Reader(lines[start + 1 : end], source, line + start + 1).read()
-        for start, end in zip(starts, [*starts[1:], len(lines)])
-    ]
+    starts = [0]
+    while found := data.find(b"\n" + HEADER + b"\n", starts[-1]) + 1:
+        starts.append(found)
+    made = []
+    for start, end in zip(starts, [*starts[1:], len(data)]):
+        body = data[start + len(HEADER) + 1 : end]
+        made.append(_Reader(body, source, line + 1).read())
+        line += 1 + body.count(b"\n")
+    return made
 
 
 class _Reader:
     """One report, from the line below its header."""
 
-    def __init__(self, lines: Sequence[bytes], source: str, line: int) -> None:
+    def __init__(self, body: bytes, source: str, line: int) -> None:
         self.source, self.line = source, line
-        count = next((k for k, text in enumerate(lines) if text[:5] == b"total"), len(lines))
-        self.lines, self.totals = lines[:count], lines[count:]
+        end = 0 if body.startswith(b"total") else body.find(b"\ntotal") + 1 or len(body)
+        self.rows, self.totals = body[:end], body[end:].split(b"\n")[:-1]
+
+    @cached_property
+    def lines(self) -> list[bytes]:
+        """The rows, line by line."""
+        return self.rows.split(b"\n")[:-1]
 
     def refuse(self, row: int, message: str) -> NoReturn:
         raise BadReport(message, self.line + row, self.source)
 
     def read(self) -> Columns:
-        if not self.lines:
+        if not self.rows:
             self.refuse(0, "totals of no run" if self.totals else "it has no run")
+        made = columns_of(self.rows) or self._row_by_row()
+        width = len(made.items)
+        self._check_limits(made, width)
+        for at in range(width):
+            self._check_item(made, at, width)
+        self._check_totals(made)
+        return made
+
+    def _row_by_row(self) -> Columns:
         flat = b",".join(self.lines).split(b",")
         if set(map(_commas, self.lines)) != {9} or any(map(_has_return, flat[9::10])):
             for number, text in enumerate(self.lines):
@@ -116,18 +109,13 @@ class _Reader:
         items = self._items(run, item, width)
         for name, column in (("seeds", seed), ("outcomes", outcome), ("times", time)):
             self._one_of_each_run(name, column, width)
-        made = Columns(
+        return Columns(
             items,
             [int(seed) for seed in self._numbers(seed[::width], 0, width)],
             self._outcomes(outcome[::width], width),
             self._numbers(time[::width], 0, width, decimals=True),
             [self._values([c[at::width] for c in columns], at, width) for at in range(width)],
         )
-        self._check_limits(made, width)
-        for at in range(width):
-            self._check_item(made, at, width)
-        self._check_totals(made)
-        return made
 
     # The order of rows
 
@@ -136,7 +124,7 @@ class _Reader:
             self._wrong_run(0, run[0], 1)
         names = list(item[:width])
         for at, name in enumerate(names):
-            if _ITEM.fullmatch(name) is None:
+            if ITEM.fullmatch(name) is None:
                 self.refuse(at, _why_no_field(self.lines[at]))
             if name in names[:at]:
                 self.refuse(at, f"run 1 has {name.decode()} twice")
@@ -263,7 +251,7 @@ class _Reader:
             self.refuse(at, f"{made.items[at]} has no such set of columns")
 
     def _check_totals(self, made: Columns) -> None:
-        first = len(self.lines)
+        first = len(made.seeds) * len(made.items)
         for at, (name, text) in enumerate(zip(made.items, self.totals)):
             fields = text.split(b",")
             if text[-1:] == b"\r" or len(fields) != 10 or fields[:4] != [b"total", b"", b"", b""]:

@@ -1,21 +1,27 @@
-"""Seeds of runs, far apart.
+"""Seeds of runs: each series has a first seed and a stride of its own, both hashes of the series' seed.
 
 The program's generator starts stream k of seed s where it starts stream 0 of seed s + 2 k.  Runs with neighbouring
-seeds therefore share draws, and intervals from them are too narrow.  The seeds of a series here are `STRIDE` apart,
-and a series starts at a hash of its seed.
+seeds therefore share draws, and intervals from them are too narrow.  So the seeds of a series are far apart.
+
+How far is a matter of several streams.  Stream k of run j begins at a fixed place plus j strides and 2 k.  One stride
+for all series makes the same streams of the same runs near to each other in each series.  With 2^64 by the golden
+ratio intervals of 95 % from 20 runs of 20 streams hold in 88 % of series.  Other strides are good for some numbers of
+streams and runs, and make intervals too narrow or too wide for others.
+
+A stride of each series' own has no such favourites.  First seed and stride are two hashes, and any two runs' seeds are
+given by the two.  So any two runs are as two independent ones, whatever the model and its streams, and a mean has the
+variance of independent runs.  `lab/measured/strides.csv` has how often intervals hold.
 """
 
 from __future__ import annotations
 
 from .errors import InputError
 
-STRIDE = 0x9E3779B97F4A7C15
-"""The distance of neighbouring runs: 2^64 by the golden ratio, odd.  No multiple of it below 10^7 times is near 0."""
-
 MOST_RUNS = 10**7
 """The most runs of a series."""
 
 _WORDS = 2**64
+_GAMMA = 0x9E3779B97F4A7C15  # by which SplitMix64 steps
 
 
 def check(seed: int) -> int:
@@ -43,6 +49,22 @@ def mix(word: int) -> int:
     return word ^ (word >> 31)
 
 
+def stride(seed: int) -> int:
+    """How far the seeds of neighbouring runs of a series are apart.
+
+    Parameters
+    ----------
+    seed : int
+        The seed of the series, 0 to 2^64 - 1.
+
+    Returns
+    -------
+    int
+        The second word of SplitMix64 begun at `seed`, made odd: so no two runs of a series have one seed.
+    """
+    return mix((check(seed) + 2 * _GAMMA) % _WORDS) | 1
+
+
 def spawn(seed: int, run: int = 1) -> int:
     """The seed that the program gets for a run of a series.
 
@@ -56,8 +78,8 @@ def spawn(seed: int, run: int = 1) -> int:
     Returns
     -------
     int
-        `mix(seed + STRIDE) + (run - 1) * STRIDE mod 2^64`.  The runs of one series are what one call of
-        `replicate --seed spawn(seed) --stride STRIDE` makes.  Series of different seeds share no run, up to a
-        chance of 10^-12 for two series of 10^7 runs.
+        The first word of SplitMix64 begun at `seed`, and `run - 1` strides modulo 2^64.  The runs of a series are
+        what `replicate --seed spawn(seed) --stride stride(seed)` makes.  Two series of 10^7 runs have a run in common
+        with a chance of 10^-5.
     """
-    return (mix((check(seed) + STRIDE) % _WORDS) + (run - 1) * STRIDE) % _WORDS
+    return (mix((check(seed) + _GAMMA) % _WORDS) + (run - 1) * stride(seed)) % _WORDS

@@ -1,4 +1,4 @@
-// Estimates against the lab's, of the same reports: means, proportions, paired differences, Holm's p-values and quantiles.
+// The lab's runs, and its estimates of the same reports: means, proportions, paired differences, Holm's p-values and quantiles.
 import test from "node:test";
 import assert from "node:assert/strict";
 import { spawnSync } from "node:child_process";
@@ -6,6 +6,7 @@ import { mkdtempSync, rmSync, writeFileSync } from "node:fs";
 import { tmpdir } from "node:os";
 import { join } from "node:path";
 import { estimate } from "../src/experiments/asking";
+import { replicate, series_of } from "../src/engine/replicate";
 import { Column, read_report, Report, since, values_of } from "../src/engine/report";
 import { holm, p_value, paired, quantile } from "../src/experiments/statistics";
 import { example, Native } from "./native";
@@ -20,7 +21,8 @@ function near(found: number, wanted: number | null | undefined, what: string): v
 }
 
 async function replicated(text: string, runs: number, until = 480): Promise<string> {
-  const answer = await engine.call({ words: ["replicate", "--until", String(until), "--seed", "7", "--events", "100000", "--runs", String(runs), "--stride", "11400714819323198485"], input: text });
+  const { seed, stride } = series_of("7");
+  const answer = await engine.call({ words: ["replicate", "--until", String(until), "--seed", seed, "--events", "100000", "--runs", String(runs), "--stride", stride], input: text });
   assert.equal(answer.status, 0, answer.err);
   return answer.out;
 }
@@ -70,6 +72,20 @@ async function compare(texts: Readonly<Record<string, string>>, item: string, co
 
 const bank = example("bank"), tellers = (many: number): string => bank.replace("0..2 = 2", `0..${many} = ${many}`);
 const ONES = "model ONES;\nvar LATE : bool = false;\nvar X : 0..9 = 0;\nwatch LATE, X;\nvertex TRY {\n  draw X from 1 in 0..9;\n  set LATE := X > 6;\n}\nend\n";
+
+test("the lab makes the same runs of the same seed", async () => {
+  for (const seed of ["1", "7", "18446744073709551615"]) {
+    const folder = mkdtempSync(join(tmpdir(), "runs-"));
+    try {
+      const file = join(folder, "bank.sigma");
+      writeFileSync(file, bank);
+      const ran = spawnSync(LAB, ["replicate", file, "--until", "480", "--events", "100000", "--runs", "40", "--seed", seed, "--plain"], { encoding: "utf8" });
+      assert.equal(ran.status, 0, ran.stderr);
+      const { report } = await replicate(engine, { text: bank, until: 480, seed, events: 100000, runs: 40 });
+      assert.deepEqual(report as Report, read_report(ran.stdout));
+    } finally { rmSync(folder, { recursive: true }); }
+  }
+});
 
 test("means, intervals, differences, Holm's p-values and quantiles of four designs", async () => {
   const rows = await compare({ base: bank, three: tellers(3), four: tellers(4), slow: bank.replace("in 3..9", "in 4..9") }, "QUEUE", "average", 300);

@@ -152,6 +152,16 @@ def test_ranges_of_measures():
         Ranges({"QUEUE": (0.0, 500.0)}, 600, {"QUEUE": (5, 5)}).of("QUEUE", "last")
 
 
+def test_a_range_that_no_counter_can_leave_is_none():
+    """None of 100 runs lost anyone, and up to 1.3e13 were said to be possible."""
+    text = "version 2; model R; var LOST : 0..281474976710656 = 0; var OWED : -5..90 = 0;\n"
+    ranges = Ranges.of_model(f"{text} watch LOST, OWED; vertex GO {{ }} end\n", 600)
+    assert ranges.of_measure(measure("LOST"))[0] == (0, math.inf)
+    assert ranges.of_measure(measure("OWED"))[0] == (-5, 90)
+    none = estimators.mean([0] * 100, bounds=ranges.of("LOST", "last"))
+    assert math.isnan(none.high) and none.low == 0
+
+
 def chosen(values, by, bounds, most=4000):
     """The winner of a contest whose runs double, or None."""
     contest, runs = Contest(by, bounds, 0.05, len(values)), 20

@@ -62,7 +62,7 @@ def test_lots_follow_the_clients_workers(client: Client) -> None:
 
 
 def test_a_worker_that_dies_loses_nothing(client: Client) -> None:
-    plan = Plan(600, runs=40_000 if program.has_stride() else 3000)
+    plan = Plan(600, runs=40_000)
     victim = pids(client)[0]
     killed: list[float] = []
 
