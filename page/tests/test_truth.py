@@ -98,6 +98,35 @@ def test_experiments_are_stale_after_an_edit_and_not_after_a_comment(page: Brows
     page.until("document.querySelector('.results .blank')")
 
 
+def test_a_second_run_leaves_no_chart_and_takes_no_table_of_the_first(page: Browser) -> None:
+    """Each figure has one chart, and that of the means a table with a line for each design."""
+    page.click("#tab-experiments")
+    page.js("sigma.store.set({ settings: { ...sigma.store.doc.settings, runs: '50' } })")
+    for designs in (1, 2, 3):
+        page.click(RUN)
+        page.until(
+            "sigma.experiments.outcomes.length === values[0] && !sigma.experiments.busy()"
+            " && document.querySelector('.interval-chart svg')",
+            90,
+            designs,
+        )
+        # Charts are drawn again when their room changes.
+        page.size(1300, 900)
+        page.until("document.querySelector('.interval-chart svg').clientWidth > 0")
+        page.size(1400, 900)
+        time.sleep(0.3)
+        figures = page.js(
+            "return [...document.querySelectorAll('.results .panel')].map(each =>"
+            " [each.querySelector('h3').firstChild.textContent, each.querySelectorAll('.interval-chart').length,"
+            " each.querySelectorAll('.interval-chart svg').length, each.querySelectorAll('.table-box tbody tr').length])"
+        )
+        assert figures[0] == ["QUEUE, time average", 1, 1, designs]
+        if designs > 1:
+            assert figures[1] == ["Differences", 1, 1, designs - 1]
+        page.click(".card.add")
+        page.until("sigma.store.doc.designs.length === values[0]", 20, designs + 1)
+
+
 def test_a_form_shows_a_draft_or_the_model(page: Browser) -> None:
     """What is refused stays in its field with the reason; mended, it is as the model says."""
     page.click(event("LEAVE"))

@@ -31,6 +31,7 @@ export class Tabs {
     // Each tab keeps the size that it was given last.
     document.body.dataset.dock = this.docks[id] === "closed" ? "open" : this.docks[id];
     this.show();
+    at(`tab-${id}`).scrollIntoView({ block: "nearest", inline: "center" });
     this.now.shown?.();
     this.app.show_part("dock", false);
     this.app.store.tell("results");
