@@ -210,16 +210,8 @@ class History:
         for name in what.names:
             self.check_item(name)
         chosen = self._codes() == self._events.index(event)
-        made = np.asarray(what(lambda name: self._exact(name, chosen, what)))
+        made = np.asarray(what(lambda name: self._column(name)[chosen]))
         return np.broadcast_to(made, (int(chosen.sum()),)).copy()
-
-    def _exact(self, name: str, chosen: NDArray[np.bool_], formula: Formula) -> NDArray[Any]:
-        """Values that a formula can compute with: Python's numbers where 64 bits might overflow."""
-        values = self._column(name)[chosen]
-        if values.dtype == bool or len(formula.names) == 1 and formula.text.strip() == name:
-            return values
-        large = len(values) and max(abs(int(values.min())), abs(int(values.max()))) >= 2**20
-        return values.astype(object) if large else values
 
     def course(self, item: str) -> tuple[NDArray[np.int64], NDArray[Any]]:
         """The ticks at which a formula of items is noted, and its value from each of them on, up to `end`."""
@@ -227,7 +219,7 @@ class History:
         for name in formula.names:
             self.check_item(name)
         chosen = self._codes() == NO_EVENT
-        values = np.asarray(formula(lambda name: self._exact(name, chosen, formula)))
+        values = np.asarray(formula(lambda name: self._column(name)[chosen]))
         values = np.broadcast_to(values, (int(chosen.sum()),))
         return self._times()[chosen], values.astype(np.int64) if values.dtype == bool else values
 
@@ -251,12 +243,13 @@ class History:
             raise InputError("the history shows no values")
         spans = np.diff(np.append(times, self.end))
         whole = values.dtype == object or np.issubdtype(values.dtype, np.integer)
-        if whole and int(np.abs(values).max()) * max(1, int(self.end)) >= 2**62:
+        greatest = max(abs(int(values.min())), abs(int(values.max()))) if whole else 0
+        if greatest * max(1, int(self.end)) >= 2**62:
             values, spans = values.astype(object), spans.astype(object)
         sums = np.concatenate([[0], np.cumsum(values * spans)])
         at = np.searchsorted(times, edges, side="right") - 1
-        if (at < 0).any():
-            raise InputError("the history begins after the first edge")
+        if (at < 0).any() or edges[-1] > self.end:
+            raise InputError(f"the history is from {times[0]} to {self.end}, and edges are beyond")
         return np.diff(sums[at] + values[at] * (np.asarray(edges) - times[at]))
 
 

@@ -25,6 +25,7 @@ from .errors import InputError
 from .formula import Formula
 
 if TYPE_CHECKING:
+    from .ranges import Ranges
     from .report import Report
 
 COLUMNS = ("least", "greatest", "last", "area", "count", "average", "time", "change")
@@ -87,6 +88,11 @@ class Measure:
         The columns of names without one of their own, above and below the `/`.  An empty text is the last value of a
         variable and the count of an event.
 
+    Attributes
+    ----------
+    sides : (float, ast.expr, ast.expr or None)
+        A factor, as of `W/C*60`, and what is above and below the `/` of a ratio.
+
     Raises
     ------
     InputError
@@ -100,7 +106,7 @@ class Measure:
     name: str = ""
     columns: tuple[str, str] = ("", "")
     formula: Formula = field(init=False, repr=False, compare=False)
-    _sides: tuple[float, ast.expr, ast.expr | None] = field(init=False, repr=False, compare=False)
+    sides: tuple[float, ast.expr, ast.expr | None] = field(init=False, repr=False, compare=False)
 
     def __post_init__(self) -> None:
         formula = Formula(self.text)
@@ -114,7 +120,7 @@ class Measure:
                 )
         if not (isinstance(self.scale, (int, float)) and math.isfinite(self.scale) and self.scale):
             raise InputError(f"a scale is a number other than 0: {self.scale}")
-        object.__setattr__(self, "_sides", _sides(formula))
+        object.__setattr__(self, "sides", _sides(formula))
         if self.columns[1] != self.columns[0] and not self.is_ratio:
             raise InputError(f"{self.text} is no ratio, so it has one column")
 
@@ -132,7 +138,7 @@ class Measure:
     @property
     def is_ratio(self) -> bool:
         """Whether it is a ratio of totals."""
-        return self._sides[2] is not None
+        return self.sides[2] is not None
 
     def of(self, report: Report) -> Sample:
         """Its numbers in a report, in the order of the runs.
@@ -145,10 +151,12 @@ class Measure:
             If the report has no such item or column.
         """
         report.check_whole()
-        factor, above, below = self._sides
+        factor, above, below = self.sides
 
         def numbers(node: ast.expr, default: str) -> NDArray[Any]:
-            made = self.formula.evaluate(lambda term: _lookup(report, term, default), node)
+            made = self.formula.evaluate(
+                lambda term: report.values(*column_of(term, default, report)), node
+            )
             return np.broadcast_to(np.asarray(made), (len(report),))
 
         single = isinstance(above, ast.Name) and below is None
@@ -170,9 +178,10 @@ def _term(word: str) -> tuple[str, str]:
     return name, column
 
 
-def _lookup(report: Report, term: str, default: str) -> NDArray[Any]:
+def column_of(term: str, default: str, where: Report | Ranges) -> tuple[str, str]:
+    """The item and the column of a term, by default the count of an event and the last value of a variable."""
     name, column = _term(term)
-    return report.values(name, column or default or ("count" if report.is_event(name) else "last"))
+    return name, column or default or ("count" if where.is_event(name) else "last")
 
 
 def _sides(formula: Formula) -> tuple[float, ast.expr, ast.expr | None]:

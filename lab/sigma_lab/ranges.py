@@ -5,28 +5,23 @@ What wasn't seen in some runs may still be possible, so no decision takes the va
 
 from __future__ import annotations
 
+import ast
 import math
-import re
 from collections.abc import Mapping
-from itertools import product
-from typing import TYPE_CHECKING, Any
+from typing import Any
 
 import numpy as np
 from numpy.typing import NDArray
 
 from .errors import InputError
-from .estimates import UNBOUNDED, Bounds
-
-if TYPE_CHECKING:
-    from .measures import Measure, Sample
+from .estimates import Bounds
+from .intervals import interval_of
+from .measures import Measure, column_of
 
 Stated = float | tuple[float, float]
 """The greatest value of a run, or the least and the greatest."""
 
-_HUGE = 1e250  # stands for infinity while formulas are computed
 _NO_LIMIT = 2**40  # the most events of a run: a range that no counter can leave limits nothing
-_MOST_TERMS = 12
-_NOT_MONOTONE = re.compile(r"\babs\b|%|//|<>|!=|(?<![<>])=")
 
 
 class Ranges:
@@ -89,60 +84,18 @@ class Ranges:
         return (low - high, high - low) if column == "change" else (low, high)
 
     def of_measure(self, measure: Measure) -> tuple[Bounds, Bounds]:
-        """The range of what is above and of what is below the `/` of a measure, in raw units; below is (1, 1) if it is no
-        ratio."""
-        made = self._corners(measure)
-        if made is None:
-            return UNBOUNDED, (1.0, 1.0) if not measure.is_ratio else UNBOUNDED
-        below = (1.0, 1.0) if made.below is None else _ends(made.below)
-        return _ends(made.above), below
+        """The range of what is above and of what is below the `/` of a measure, in raw units and without the ratio's
+        factor; below is (1, 1) if it is no ratio."""
+        _, above, below = measure.sides
 
-    def _corners(self, measure: Measure) -> Sample | None:
-        """The measure at each choice of ends of its terms; None where its ends needn't be there."""
-        probe = _Probe(self)
-        measure.of(probe)  # type: ignore[arg-type]
-        terms = list(probe.columns)
-        if len(terms) > _MOST_TERMS:
-            return None
-        ends = [self.of(*term) for term in terms]
-        choices = np.array(list(product(*ends)), dtype=float).clip(-_HUGE, _HUGE)
-        try:
-            made = measure.of(_Probe(self, dict(zip(terms, choices.T)), len(choices)))  # type: ignore[arg-type]
-        except InputError:
-            return None
-        if made.above.dtype != bool and _NOT_MONOTONE.search(measure.text):
-            return None
-        return made
+        def span(node: ast.expr, default: str) -> Bounds:
+            return interval_of(
+                measure.formula, node, lambda term: self.of(*column_of(term, default, self))
+            )
 
-
-class _Probe:
-    """A report that has the ends of ranges in place of runs."""
-
-    def __init__(
-        self,
-        ranges: Ranges,
-        columns: dict[tuple[str, str], NDArray[Any]] | None = None,
-        size: int = 1,
-    ) -> None:
-        self.ranges, self.size, self.given = ranges, size, columns
-        self.columns: dict[tuple[str, str], NDArray[Any]] = dict(columns or {})
-        self.seeds = np.zeros(size, dtype=np.uint64)
-
-    def __len__(self) -> int:
-        return self.size
-
-    def check_whole(self) -> None:
-        """All of its runs are whole."""
-
-    def is_event(self, item: str) -> bool:
-        """Whether an item is an event."""
-        return self.ranges.is_event(item)
-
-    def values(self, item: str, column: str) -> NDArray[Any]:
-        """A column of an item."""
-        if self.given is None:
-            self.columns[item, column] = np.ones(self.size)
-        return self.columns[item, column]
+        return span(above, measure.columns[0]), (
+            (1.0, 1.0) if below is None else span(below, measure.columns[1])
+        )
 
 
 def check_inside(numbers: NDArray[Any], bounds: Bounds, label: str) -> None:
@@ -165,10 +118,3 @@ def _pair(stated: Stated, least: float) -> Bounds:
     if not low < high:
         raise InputError(f"a range has a least value below its greatest: {low:g} and {high:g}")
     return float(low), float(high)
-
-
-def _ends(values: NDArray[Any]) -> Bounds:
-    if values.dtype == bool:
-        return 0.0, 1.0
-    low, high = float(values.min()), float(values.max())
-    return low if low > -_HUGE / 1e50 else -math.inf, high if high < _HUGE / 1e50 else math.inf

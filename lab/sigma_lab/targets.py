@@ -118,7 +118,7 @@ class Limits:
     @classmethod
     def of(cls, target: Target, above: Bounds, below: Bounds) -> Limits:
         """Those of a target whose sides lie in these ranges, in raw units."""
-        scale = target.what.scale
+        scale = target.what.scale * target.what.sides[0]
         above = (
             (above[0] * scale, above[1] * scale)
             if scale > 0

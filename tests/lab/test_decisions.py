@@ -145,11 +145,35 @@ def test_ranges_of_measures():
     ):
         assert ranges.of_measure(measure(words))[0] == expected, words
     assert ranges.of_measure(measure("LOST"))[0] == (0, math.inf)
-    assert ranges.of_measure(measure("abs(STOCK)"))[0] == (-math.inf, math.inf)
+    assert ranges.of_measure(measure("abs(STOCK)"))[0] == (0, 80)
+    assert ranges.of_measure(measure("LOST/(QUEUE - 5)"))[1] == (-5, 495)
     narrow = Ranges({"QUEUE": (0.0, 500.0)}, 600, {"QUEUE": (2, 40)})
     assert narrow.of_measure(measure("QUEUE.last"))[0] == (2, 40)
     with pytest.raises(InputError):
         Ranges({"QUEUE": (0.0, 500.0)}, 600, {"QUEUE": (5, 5)}).of("QUEUE", "last")
+
+
+def test_a_condition_between_two_limits_may_hold():
+    """`2 < QUEUE < 4` fails at both ends of QUEUE's range, so a share of it was met at once."""
+    ranges = Ranges({"QUEUE": (0.0, 500.0)}, 600)
+    target = Target.parse("100*(2 < QUEUE.last < 4) <= 5 by 4")
+    assert target.limits(ranges).worst == -95
+    assert ranges.of_measure(measure("(QUEUE - 250)*(QUEUE - 250)"))[0] == (-62500, 62500)
+
+
+@pytest.mark.parametrize("words", ["60*W/C", "W/C*60", "W*60/C", "-(-60*W/C)", "W/(C/60)"])
+def test_a_factor_of_a_ratio_counts(words):
+    """The range of `W/C*60` was that of W/C."""
+    ranges = Ranges({"W": (0.0, 1000.0), "C": (1.0, 50.0)}, 600)
+    below = 1 / 60 if words == "W/(C/60)" else 1
+    made = Target.parse(f"{words} <= 5 by 1").limits(ranges)
+    worst, best = (5 - 60000) * below, 250 * below
+    if below == 1:
+        assert (made.worst, made.best, made.best_at_margin) == (worst, best, 200)
+    else:
+        assert made.worst == pytest.approx(5 / 60 - 1000) and made.best == pytest.approx(best)
+    turned = Target.parse(f"-({words}) >= -5 by 1").limits(ranges)
+    assert turned.worst == pytest.approx(made.worst) and turned.best == pytest.approx(made.best)
 
 
 def test_a_range_that_no_counter_can_leave_is_none():

@@ -48,6 +48,18 @@ def test_areas_beyond_64_bits_stay_exact() -> None:
     expected = large * 9 - large * (2**48 - 9)
     assert made.areas("X", np.array([0, 2**48], dtype=np.int64)).tolist() == [expected]
     assert made.course("4*X")[1].tolist() == [2**64, -(2**64)]
+    least = -(2**63)
+    made = History.parse(f"at 0 X={least}\nstopped 9\n")
+    assert made.areas("X", np.array([0, 9])).tolist() == [9 * least]
+    assert made.areas("X*X", np.array([0, 9])).tolist() == [9 * least**2]
+    made = History.parse("on 3 E X=1000000\nat 3 X=1000000\nstopped 9\n")
+    assert made.at_event("E", "X*100000000000000").tolist() == [10**20]
+
+
+def test_edges_beyond_a_history_are_refused() -> None:
+    made = History.parse(SMALL)
+    with pytest.raises(InputError, match="from 0 to 20"):
+        made.areas("X", np.array([0, 21]))
 
 
 @pytest.mark.parametrize(

@@ -136,6 +136,28 @@ def test_formulas_are_exact_on_whole_numbers() -> None:
     assert Formula("a.last - a.last").names == ("a.last",)
 
 
+def test_truth_values_count_as_0_or_1() -> None:
+    """The sum of two conditions was 1 where both held, as of `or`."""
+    assert SMALL.sample("(W > 20) + (C > 2)").above.tolist() == [2, 1]
+    assert SMALL.sample("(W > 50) - (C > 2)").above.tolist() == [-1, 1]
+    assert SMALL.sample("-(W > 50)").above.tolist() == [0, -1]
+    assert Formula("(A > 2) + (A > 3)")(lambda name: 5) == 2
+
+
+@given(
+    st.lists(st.integers(-(2**63), 2**63 - 1), min_size=1, max_size=4),
+    st.integers(0, 2**65),
+    st.sampled_from(["A*A*A*A", "A*K", "A+K", "K-A", "-A", "abs(A)", "max(A, K)", "A//(K+1)"]),
+)
+def test_formulas_never_leave_64_bits_without_a_word(
+    values: list[int], constant: int, words: str
+) -> None:
+    """A = 10^6 times 10^14 was 7766279631452241920."""
+    words = words.replace("K", str(constant))
+    made = np.asarray(Formula(words)(lambda name: np.array(values))).tolist()
+    assert made == [Formula(words)(lambda name: int(value)) for value in values]
+
+
 LETTERS = st.text("QUEUEIDLEabs.01()[]+-*/%<>= ,'\"_", max_size=40)
 
 
