@@ -49,7 +49,7 @@ def estimate(
         made = ratio(sample.above, sample.below, confidence_level=confidence_level)
     else:
         made = mean(sample.above, method=method, confidence_level=confidence_level, bounds=bounds)
-    return made.scale(sample.scale, sample.unit)
+    return made.scale(sample.scale, sample.unit).warn(*sample.warnings)
 
 
 def mean(
@@ -126,7 +126,12 @@ def _moments(average: float, more: Floats, level: float, is_skewed: bool) -> Est
     )
     # Boos and Hughes-Oliver 2000: the t interval needs some 100 (skewness / 2)^2 values; Willink's a fifth.
     need = math.ceil((5 if is_skewed else 25) * skew**2)
-    return made.warn(f"skewed values (skewness {skew:.1f}): take {need} runs" if n < need else "")
+    return made.warn(
+        f"skewed values (skewness {skew:.1f}): take {need} runs" if n < need else "",
+        f"so large numbers have no room for ends {2 * t * error:.3g} apart: take a number off first"
+        if 2 * t * error < 16 * math.ulp(average)
+        else "",
+    )
 
 
 def student_t(df: float, confidence_level: float) -> float:

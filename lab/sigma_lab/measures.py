@@ -23,6 +23,7 @@ from numpy.typing import NDArray
 
 from .errors import InputError
 from .formula import Formula
+from .sides import Sides, sides_of
 
 if TYPE_CHECKING:
     from .ranges import Ranges
@@ -57,6 +58,8 @@ class Sample:
         Estimates of these numbers are multiplied by it, after they are made.
     unit : str
         The unit of the scaled estimates, or an empty text.
+    warnings : tuple of str
+        What estimates of these numbers warn of besides.
     """
 
     seeds: NDArray[np.uint64]
@@ -65,9 +68,18 @@ class Sample:
     is_count: bool = False
     scale: float = 1.0
     unit: str = ""
+    warnings: tuple[str, ...] = ()
 
     def __len__(self) -> int:
         return len(self.above)
+
+    def after(self, warm_up: int, last: Sequence[str]) -> Sample:
+        """The sample of a report that begins at a tick, with a warning of these items' last values."""
+        if not warm_up or not last:
+            return self
+        name = last[0]
+        count = f"{name}.last counts from the beginning, and {name}.change from the warm-up on"
+        return replace(self, warnings=(f"if {name} is a running count, {count}",))
 
 
 @dataclass(frozen=True)
@@ -90,7 +102,7 @@ class Measure:
 
     Attributes
     ----------
-    sides : (float, ast.expr, ast.expr or None)
+    sides : Sides
         A factor, as of `W/C*60`, and what is above and below the `/` of a ratio.
 
     Raises
@@ -106,7 +118,7 @@ class Measure:
     name: str = ""
     columns: tuple[str, str] = ("", "")
     formula: Formula = field(init=False, repr=False, compare=False)
-    sides: tuple[float, ast.expr, ast.expr | None] = field(init=False, repr=False, compare=False)
+    sides: Sides = field(init=False, repr=False, compare=False)
 
     def __post_init__(self) -> None:
         formula = Formula(self.text)
@@ -120,7 +132,7 @@ class Measure:
                 )
         if not (isinstance(self.scale, (int, float)) and math.isfinite(self.scale) and self.scale):
             raise InputError(f"a scale is a number other than 0: {self.scale}")
-        object.__setattr__(self, "sides", _sides(formula))
+        object.__setattr__(self, "sides", sides_of(formula))
         if self.columns[1] != self.columns[0] and not self.is_ratio:
             raise InputError(f"{self.text} is no ratio, so it has one column")
 
@@ -153,10 +165,14 @@ class Measure:
         report.check_whole()
         factor, above, below = self.sides
 
+        used: list[tuple[str, str]] = []
+
         def numbers(node: ast.expr, default: str) -> NDArray[Any]:
-            made = self.formula.evaluate(
-                lambda term: report.values(*column_of(term, default, report)), node
-            )
+            def values(term: str) -> NDArray[Any]:
+                used.append(column_of(term, default, report))
+                return report.values(*used[-1])
+
+            made = self.formula.evaluate(values, node)
             return np.broadcast_to(np.asarray(made), (len(report),))
 
         single = isinstance(above, ast.Name) and below is None
@@ -169,7 +185,7 @@ class Measure:
             is_count and report.is_event(name),
             self.scale * factor,
             self.unit,
-        )
+        ).after(report.attrs.warm_up, [name for name, column in used if column == "last"])
 
 
 def _term(word: str) -> tuple[str, str]:
@@ -182,54 +198,6 @@ def column_of(term: str, default: str, where: Report | Ranges) -> tuple[str, str
     """The item and the column of a term, by default the count of an event and the last value of a variable."""
     name, column = _term(term)
     return name, column or default or ("count" if where.is_event(name) else "last")
-
-
-def _sides(formula: Formula) -> tuple[float, ast.expr, ast.expr | None]:
-    """A factor, what is above and what is below the `/` of a ratio; below is None where there is none."""
-    found = _quotient(formula, formula.tree)
-    if found is not None:
-        return found
-    divisions = (ast.Div, ast.FloorDiv, ast.Mod)
-    for node in ast.walk(formula.tree):
-        if isinstance(node, ast.BinOp) and isinstance(node.op, divisions):
-            if formula.has_names(node.right):
-                raise InputError(
-                    f"a ratio of totals is A/B, perhaps with a factor, and no part of a larger formula: {formula.text}"
-                )
-    return 1.0, formula.tree, None
-
-
-def _quotient(formula: Formula, node: ast.expr) -> tuple[float, ast.expr, ast.expr] | None:
-    if isinstance(node, ast.UnaryOp) and isinstance(node.op, ast.USub):
-        inner = _quotient(formula, node.operand)
-        return None if inner is None else (-inner[0], *inner[1:])
-    if not isinstance(node, ast.BinOp):
-        return None
-    left, right = formula.has_names(node.left), formula.has_names(node.right)
-    if isinstance(node.op, ast.Div) and right:
-        for side in (node.left, node.right):
-            if any(
-                isinstance(part, ast.BinOp)
-                and isinstance(part.op, (ast.Div, ast.FloorDiv, ast.Mod))
-                and formula.has_names(part.right)
-                for part in ast.walk(side)
-            ):
-                return None
-        return 1.0, node.left, node.right
-    if isinstance(node.op, (ast.Mult, ast.Div)) and left != right:
-        inner = _quotient(formula, node.left if left else node.right)
-        if inner is None:
-            return None
-        constant = float(formula.evaluate(_no_name, node.right if left else node.left))
-        if constant == 0 or not math.isfinite(constant):
-            raise InputError(f"a factor of a ratio is a number other than 0: {formula.text}")
-        by = 1 / constant if isinstance(node.op, ast.Div) else constant
-        return inner[0] * by, *inner[1:]
-    return None
-
-
-def _no_name(name: str) -> Any:
-    raise InputError(f"{name} is no number")
 
 
 @dataclass(frozen=True)

@@ -207,6 +207,8 @@ class Report:
                 text = f"{item} is an event, which has a count, and no {column}"
             elif column == "count":
                 text = f"{item} is a variable, which has no count, but {' '.join(found)}"
+            elif column == "change" and self.attrs.warm_up:
+                text = f"a file keeps no change of {item}: a sweep has it, or a report in Python"
             else:
                 text = f"{self.label} has no {column} of {item}"
             raise InputError(text)
@@ -320,14 +322,16 @@ class Report:
         sample = self.sample(measure)
         from . import estimators
 
-        return estimators.quantile(sample, p, confidence_level=confidence_level)
+        made = estimators.quantile(sample, p, confidence_level=confidence_level)
+        return made.warn(*sample.warnings)
 
     def predict(self, measure: str | Measure, *, confidence_level: float = 0.95) -> Estimate:
         """Between which values one further run lies."""
         sample = self.sample(measure)
         from . import estimators
 
-        return estimators.prediction(sample, confidence_level=confidence_level)
+        made = estimators.prediction(sample, confidence_level=confidence_level)
+        return made.warn(*sample.warnings)
 
     def summary(self, *, confidence_level: float = 0.95) -> pd.DataFrame:
         """A row for each item with its estimate: averages of variables, counts of events."""

@@ -98,15 +98,16 @@ def test_without_room_for_temporary_files(
     assert status == 0 and (name == "report" or text == first[1])
 
 
-@pytest.mark.parametrize("name", sorted(set(WORDS) - set(PICTURES)))
+@pytest.mark.parametrize("name", [*sorted(set(WORDS) - set(PICTURES)), "--help", "--version"])
+@pytest.mark.parametrize("more", [[], ["--help"]])
 def test_where_the_output_is_full(
-    name: str, words: dict[str, list[str]], capsys: pytest.CaptureFixture[str]
+    name: str, more: list[str], words: dict[str, list[str]], capsys: pytest.CaptureFixture[str]
 ) -> None:
     """Nine of the older tools ended with 0."""
     with open("/dev/full", "w", encoding="utf-8") as full:
         kept, sys.stdout = sys.stdout, full
         try:
-            status = cli.main(words[name])
+            status = cli.main([*words.get(name, [name]), *more])
         finally:
             sys.stdout = kept
     assert status == 1 and "can't write: No space left on device" in capsys.readouterr().err

@@ -50,6 +50,14 @@ def test_large_whole_numbers_lose_nothing():
     assert stats.mean(near, method="t").standard_error == pytest.approx(ss.sem([0, 1, 2, 3, 4]))
 
 
+def test_ends_that_a_float_cant_tell_apart_are_said():
+    """The half width of 2^62 + 1 and 2^62 + 3 was 0."""
+    made = estimators.mean(np.array([2**62 + 1, 2**62 + 3], dtype=object))
+    assert made.standard_error == 1 and "25.4 apart: take a number off first" in made.warnings[-1]
+    assert not estimators.mean(np.array([1, 3], dtype=object)).warnings
+    assert not estimators.mean([2.0**53, 2.0**53 + 400]).warnings
+
+
 @settings(deadline=None, max_examples=30)
 @given(st.floats(-1e9, 1e9), st.integers(2, 50))
 def test_equal_values_are_no_certainty(x, n):

@@ -154,6 +154,25 @@ def test_warm_up_is_exact() -> None:
         Plan(400, warm_up=400)
 
 
+def test_a_running_count_after_a_warm_up_is_warned_of() -> None:
+    """TICK/DONE was 0.29, where half of the events are a TICK: DONE.last counted those of the warm-up too."""
+    text = (
+        "version 2; model C; var DONE : 0..1000000 = 0; watch DONE, TICK;\n"
+        "vertex GO { set DONE := DONE + 1; schedule GO after 1; urgent TICK when DONE % 2 = 0; } vertex TICK { } end\n"
+    )
+    made = replicate(text, Plan(100, runs=5, warm_up=40))
+    for words in ("DONE.last", "DONE", "TICK/DONE", "DONE/TICK"):
+        assert "DONE.change from the warm-up on" in made.estimate(words).warnings[-1]
+    assert "DONE.change" in made.quantile("DONE", 0.5).warnings[-1]
+    assert "DONE.change" in made.predict("DONE").warnings[-1]
+    right = made.estimate("TICK/DONE.change")
+    assert right.value == 0.5 and not any("DONE.change" in each for each in right.warnings)
+    whole = replicate(text, Plan(100, runs=5)).estimate("TICK/DONE")
+    assert not any("DONE.change" in each for each in whole.warnings)
+    with pytest.raises(InputError, match="a sweep has it"):
+        Report.parse(made.to_csv(with_provenance=True)).estimate("DONE.change")
+
+
 @pytest.mark.parametrize(
     "times, areas, rest",
     [
