@@ -53,8 +53,8 @@ return performance.now() - begun"""
 def fresh(page: Browser, address: str) -> None:
     """Open the page as one that nobody has used before."""
     page.open("about:blank")
-    page.open(address)
-    page.until(f"globalThis.sigma && {ACCEPTED} && document.querySelector('.node')", 60)
+    with page.becomes(f"globalThis.sigma && {ACCEPTED} && document.querySelector('.node')"):
+        page.open(address)
 
 
 def told(what: str, found: str, asked: str) -> None:
@@ -87,14 +87,14 @@ def runs(page: Browser, address: str) -> None:
 
     def by(workers: int) -> float:
         page.open("about:blank")
-        page.open(f"{address}#cores={workers}")
-        page.until(f"globalThis.sigma && {ACCEPTED}", 60)
-        page.js(
-            "const settings = { ...sigma.store.doc.settings, runs: values[0] };"
-            "sigma.store.set({ settings }); sigma.command('experiment')",
-            str(RUNS),
-        )
-        page.until("sigma.experiments.outcomes.length && !sigma.experiments.busy()", 300)
+        with page.becomes(f"globalThis.sigma && {ACCEPTED}"):
+            page.open(f"{address}#cores={workers}")
+        with page.becomes("sigma.experiments.outcomes.length && !sigma.experiments.busy()"):
+            page.js(
+                "const settings = { ...sigma.store.doc.settings, runs: values[0] };"
+                "sigma.store.set({ settings }); sigma.command('experiment')",
+                str(RUNS),
+            )
         return float(page.js("return sigma.experiments.outcomes[0].replicated.ms"))
 
     alone, together = least(lambda: by(1)), least(lambda: by(WORKERS))
@@ -128,7 +128,9 @@ def graphs(page: Browser, address: str) -> None:
 
 def main() -> None:
     """Measure the page that is named."""
-    parser = argparse.ArgumentParser(description=(__doc__ or "").strip(), formatter_class=argparse.RawTextHelpFormatter)
+    parser = argparse.ArgumentParser(
+        description=(__doc__ or "").strip(), formatter_class=argparse.RawTextHelpFormatter
+    )
     parser.add_argument("page", nargs="?", type=Path, default=PAGE / "out" / "sigma.html")
     parser.add_argument("--browser", choices=sorted(KINDS), default="chromium")
     asked = parser.parse_args()

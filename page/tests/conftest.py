@@ -14,6 +14,10 @@ from drive.firefox import Firefox
 
 PAGE = Path(__file__).resolve().parent.parent
 KINDS = {"chromium": Chromium, "firefox": Firefox}
+# A note goes after some seconds; a busy machine may take longer to look at it.
+NOTES_STAY = """
+const begin = window.setTimeout;
+window.setTimeout = (act, after, ...more) => begin(act, after >= 4000 ? 100 * after : after, ...more)"""
 
 
 def pytest_addoption(parser: pytest.Parser) -> None:
@@ -60,7 +64,6 @@ def wait_for_model(browser: Browser) -> None:
     browser.until(
         "globalThis.sigma && sigma.store.verdict.state === 'accepted'"
         " && !sigma.app.canvas.busy && document.querySelector('.node')",
-        60,
     )
 
 
@@ -79,6 +82,8 @@ def page(window: Browser, address: str) -> Iterator[Browser]:
     wait_for_model(window)
     # In a window of this width the text is folded away at first.
     window.js("sigma.app.show_text()")
+    window.still()
+    window.js(NOTES_STAY)
     yield window
     assert window.complaints() == []
 

@@ -9,8 +9,7 @@ from pathlib import Path
 from conftest import wait_for_model
 from drive.browser import Browser
 from drive.chromium import Chromium
-
-ACCEPTED = "sigma.store.verdict.state === 'accepted'"
+from waits import ACCEPTED, edited
 
 
 def _fresh(page: Browser, address: str) -> None:
@@ -31,8 +30,8 @@ def take(page: Browser, address: str, folder: Path) -> None:
         page.shot(str(folder / f"{name}.png"))
 
     _fresh(page, address)
-    page.js("sigma.command('text-pane'); sigma.command('run')")
-    page.until("sigma.run.result", 60)
+    with page.becomes("sigma.run.result"):
+        page.js("sigma.command('text-pane'); sigma.command('run')")
     page.js("sigma.run.step(40)")
     page.js("sigma.app.pick({ kind: 'event', name: 'SERVE' })")
     shot("page")
@@ -40,30 +39,30 @@ def take(page: Browser, address: str, folder: Path) -> None:
         "sigma.command('text-pane'); sigma.app.pick({ kind: 'edge', from: 'ARRIVE', place: 0 })"
     )
     shot("page_edge")
-    page.js("sigma.store.edit(sigma.store.doc.text.replace('QUEUE + 1', 'QEUE + 1'), 'Typing')")
-    page.until("sigma.store.verdict.state === 'refused'")
+    with page.becomes("sigma.store.verdict.state === 'refused'"):
+        page.js("sigma.store.edit(sigma.store.doc.text.replace('QUEUE + 1', 'QEUE + 1'), 'Typing')")
     page.js("sigma.app.show_fault()")
     shot("page_refused")
     _fresh(page, address)
-    page.js("sigma.store.edit(sigma.store.doc.text.replace('0..500', '0..2'), 'Typing')")
-    page.until(ACCEPTED)
-    page.js("sigma.command('run')")
-    page.until("document.querySelector('.fault-box button')", 60)
+    with edited(page):
+        page.js("sigma.store.edit(sigma.store.doc.text.replace('0..500', '0..2'), 'Typing')")
+    with page.becomes("document.querySelector('.fault-box button')"):
+        page.js("sigma.command('run')")
     page.click(".fault-box button")
     shot("page_fault")
     _fresh(page, address)
     page.click("#tab-experiments")
-    page.click(".card.add")
-    page.until("sigma.store.doc.designs.length === 2")
-    page.js("sigma.store.edit(sigma.store.doc.text.replace('0..2 = 2', '0..3 = 3'), 'Typing')")
-    page.until(ACCEPTED)
-    page.js("sigma.command('experiment')")
-    page.until("sigma.experiments.outcomes.length === 2 && !sigma.experiments.busy()", 180)
+    with page.becomes("sigma.store.doc.designs.length === 2"):
+        page.click(".card.add")
+    with edited(page):
+        page.js("sigma.store.edit(sigma.store.doc.text.replace('0..2 = 2', '0..3 = 3'), 'Typing')")
+    with page.becomes("sigma.experiments.outcomes.length === 2 && !sigma.experiments.busy()"):
+        page.js("sigma.command('experiment')")
     shot("page_experiments")
-    page.js("sigma.open_example('polling')")
-    page.until(f"{ACCEPTED} && sigma.store.shown.name === 'POLLING'")
-    page.js("sigma.command('reduce')")
-    page.until("document.querySelector('.checks .good')", 60)
+    with page.becomes(f"{ACCEPTED} && sigma.store.shown.name === 'POLLING'"):
+        page.js("sigma.open_example('polling')")
+    with page.becomes("document.querySelector('.checks .good')"):
+        page.js("sigma.command('reduce')")
     shot("page_reduce")
     page.js("sigma.command('examples')")
     time.sleep(6)

@@ -19,11 +19,11 @@ async function history(model: Model, names: string[], settings = DAY): Promise<{
 }
 
 test("the first time and each next one are those of the history, with small pieces and with large ones", async () => {
-  const model = await model_of(example("bank")), all = await history(model, ["QUEUE", "IDLE"]), is = (value: string) => Number(value) >= 3;
+  const model = await model_of(example("bank")), all = await history(model, ["QUEUE", "IDLE"]), is = (value: string) => Number(value) >= 2;
   const wanted = all.flatMap(({ values }, k) => (is(values.QUEUE) && !(k && is(all[k - 1].values.QUEUE)) ? [k + 1] : []));
   assert.ok(wanted.length > 2, `${wanted}`);
-  for (const piece of [7, 100, 20000]) {
-    const found: number[] = [], stop: Stop = { cell: "QUEUE", how: ">=", than: "3" };
+  for (const piece of [1, 7, 100, 20000]) {
+    const found: number[] = [], stop: Stop = { cell: "QUEUE", how: ">=", than: "2" };
     for (let after: number | null = null; ;) {
       const met: Found = await find_stop(engine, model, DAY, stop, after, { signal }, piece);
       if (met.event === null) { assert.equal(met.last === "" || met.last === "stopped 480", true, met.last); break; }

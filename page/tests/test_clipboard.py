@@ -5,7 +5,8 @@ from __future__ import annotations
 from conftest import wait_for_model
 from drive.browser import Browser
 from test_graph import paper
-from test_truth import ACCEPTED, event, text
+from test_truth import event, text
+from waits import ACCEPTED
 
 NOTE = "(document.querySelector('#notes .note')?.textContent ?? '')"
 EVENTS = "sigma.store.shown.vertices.map(each => each.name).join(' ')"
@@ -16,14 +17,14 @@ def pick(page: Browser, *names: str) -> None:
     page.click(event(names[0]))
     for name in names[1:]:
         page.click(event(name), held="Shift")
-    page.until("[sigma.app.picked?.name, ...sigma.app.more].includes(values[0])", 20, names[-1])
+    page.until("[sigma.app.picked?.name, ...sigma.app.more].includes(values[0])", names[-1])
 
 
 def copy(page: Browser, *names: str) -> None:
     """Copy these events by keys."""
     pick(page, *names)
-    page.chord("Control", "c")
-    page.until(f"{NOTE}.includes('copied')")
+    with page.becomes(f"{NOTE}.includes('copied')"):
+        page.chord("Control", "c")
 
 
 def edges(page: Browser, name: str) -> str:
@@ -39,8 +40,8 @@ def test_copies_have_edges_among_themselves_and_are_one_step(page: Browser) -> N
     """SERVE1 leads to LEAVE1 and back, they lie on no other event, and one Undo takes both."""
     before = text(page)
     copy(page, "SERVE", "LEAVE")
-    page.chord("Control", "v")
-    page.until(f"{ACCEPTED} && ({EVENTS}).endsWith('SERVE1 LEAVE1')")
+    with page.becomes(f"{ACCEPTED} && ({EVENTS}).endsWith('SERVE1 LEAVE1')"):
+        page.chord("Control", "v")
     assert (edges(page, "SERVE1"), edges(page, "LEAVE1")) == ("LEAVE1", "SERVE1")
     page.until("document.querySelector('.stage-pane [data-part=\"event:LEAVE1\"]')")
     assert page.js("return sigma.app.more.join(' ')") == "SERVE1 LEAVE1"
@@ -58,37 +59,37 @@ def test_copies_have_edges_among_themselves_and_are_one_step(page: Browser) -> N
         " at('LEAVE' + k).y - at('SERVE' + k).y])"
     )
     assert way[0] == way[1]
-    page.chord("Control", "z")
-    page.until("sigma.store.doc.text === values[0]", 20, before)
+    with page.becomes("sigma.store.doc.text === values[0]", before):
+        page.chord("Control", "z")
 
 
 def test_duplicate_copies_as_paste_does(page: Browser) -> None:
     """Ctrl+D needs no clipboard."""
     pick(page, "SERVE", "LEAVE")
-    page.chord("Control", "d")
-    page.until(f"{ACCEPTED} && ({EVENTS}).endsWith('SERVE1 LEAVE1')")
+    with page.becomes(f"{ACCEPTED} && ({EVENTS}).endsWith('SERVE1 LEAVE1')"):
+        page.chord("Control", "d")
     assert edges(page, "SERVE1") == "LEAVE1"
 
 
 def test_cut_events_come_back_by_their_names(page: Browser) -> None:
     """Cut takes them away, Paste brings them back; edges from others to them are gone."""
     pick(page, "SERVE", "LEAVE")
-    page.chord("Control", "x")
-    page.until(f"{ACCEPTED} && {EVENTS} === 'OPEN ARRIVE CLOSE'")
+    with page.becomes(f"{ACCEPTED} && {EVENTS} === 'OPEN ARRIVE CLOSE'"):
+        page.chord("Control", "x")
     assert edges(page, "ARRIVE") == "ARRIVE"
-    page.chord("Control", "v")
-    page.until(f"{ACCEPTED} && {EVENTS} === 'OPEN ARRIVE CLOSE SERVE LEAVE'")
+    with page.becomes(f"{ACCEPTED} && {EVENTS} === 'OPEN ARRIVE CLOSE SERVE LEAVE'"):
+        page.chord("Control", "v")
     assert edges(page, "LEAVE") == "SERVE"
 
 
 def test_events_go_to_another_model_with_what_they_use(page: Browser) -> None:
     """Variables are declared there; the edge to an event that isn't there is left out, and told."""
     copy(page, "LEAVE")
-    page.js("sigma.open_example('polling')")
-    page.until(f"{ACCEPTED} && sigma.store.shown.name === 'POLLING'")
+    with page.becomes(f"{ACCEPTED} && sigma.store.shown.name === 'POLLING'"):
+        page.js("sigma.open_example('polling')")
     wait_for_model(page)
-    page.chord("Control", "v")
-    page.until(f"{ACCEPTED} && ({EVENTS}).endsWith(' LEAVE')")
+    with page.becomes(f"{ACCEPTED} && ({EVENTS}).endsWith(' LEAVE')"):
+        page.chord("Control", "v")
     assert edges(page, "LEAVE") == ""
     told = page.until(f"{NOTE}.includes('pasted') && {NOTE}")
     assert "1 edge left out: there is no SERVE here" in told
@@ -99,20 +100,20 @@ def test_events_go_to_another_model_with_what_they_use(page: Browser) -> None:
 def test_events_are_pasted_on_an_empty_page(page: Browser) -> None:
     """A model is made around them."""
     copy(page, "SERVE", "LEAVE")
-    page.js("sigma.command('new')")
-    page.until("sigma.store.verdict.state === 'empty'")
-    page.chord("Control", "v")
-    page.until(f"{ACCEPTED} && {EVENTS} === 'SERVE LEAVE'")
+    with page.becomes("sigma.store.verdict.state === 'empty'"):
+        page.js("sigma.command('new')")
+    with page.becomes(f"{ACCEPTED} && {EVENTS} === 'SERVE LEAVE'"):
+        page.chord("Control", "v")
 
 
 def test_the_clipboard_holds_model_text(page: Browser) -> None:
     """In the text it is pasted as it is, with declarations and events."""
     copy(page, "CLOSE", "LEAVE")
-    page.js("sigma.command('new')")
-    page.until("sigma.store.verdict.state === 'empty'")
+    with page.becomes("sigma.store.verdict.state === 'empty'"):
+        page.js("sigma.command('new')")
     page.click(".CodeMirror-lines")
-    page.chord("Control", "v")
-    page.until("sigma.store.doc.text.includes('vertex CLOSE')")
+    with page.becomes("sigma.store.doc.text.includes('vertex CLOSE')"):
+        page.chord("Control", "v")
     pasted = text(page)
     for words in ("var QUEUE : 0..500 = 0;", "vertex LEAVE {", "cancel all ARRIVE;", "# places"):
         assert words in pasted
@@ -128,8 +129,8 @@ def test_other_text_is_pasted_nowhere(page: Browser) -> None:
     page.chord("Control", "c")
     page.keys("Escape")
     page.js("sigma.app.canvas.keyboard.enter()")
-    page.chord("Control", "v")
-    page.until(f"{NOTE}.includes('nothing is pasted')")
+    with page.becomes(f"{NOTE}.includes('nothing is pasted')"):
+        page.chord("Control", "v")
     assert text(page) == before
 
 
@@ -137,17 +138,14 @@ def test_keys_in_a_field_are_the_fields_own(page: Browser) -> None:
     """While one types, Ctrl+C and Ctrl+V are of the typed words, and Ctrl+X deletes no event."""
     page.click(event("SERVE"))
     before = text(page)
+    typed = "document.querySelector('[data-field=\"event:SERVE/params\"]').value"
     page.click('[data-field="event:SERVE/params"]')
     page.keys("IDLE")
     page.chord("Control", "a")
     page.chord("Control", "x")
     page.chord("Control", "v")
-    page.chord("Control", "v")
-    found = page.until(
-        "document.querySelector('[data-field=\"event:SERVE/params\"]').value.length === 8"
-        " && document.querySelector('[data-field=\"event:SERVE/params\"]').value"
-    )
-    assert found == "IDLEIDLE"
+    with page.becomes(f"{typed} === 'IDLEIDLE'"):
+        page.chord("Control", "v")
     page.keys("Escape")
     assert text(page) == before
 
@@ -162,8 +160,8 @@ def test_the_menu_copies_and_pastes_where_it_was_asked_for(page: Browser) -> Non
     mark = f"{item}?.setAttribute('data-wanted', '')"
     page.js(ask, event("LEAVE"), 300, 300)
     page.js(mark, "Copy")
-    page.click("[data-wanted]")
-    page.until(f"{NOTE}.includes('copied')")
+    with page.becomes(f"{NOTE}.includes('copied')"):
+        page.click("[data-wanted]")
     # A browser asks the person before a menu reads the clipboard; here it is answered at once.
     excerpt = "vertex LEAVE {\n  set IDLE := IDLE + 1;\n}\n# places LEAVE 0,0;\n"
     page.js(
@@ -173,7 +171,7 @@ def test_the_menu_copies_and_pastes_where_it_was_asked_for(page: Browser) -> Non
     place = paper(page, 0.12, 0.5)
     page.js(ask, ".stage-pane .graph", *place)
     page.js(mark, "Paste")
-    page.click("[data-wanted]")
-    page.until(f"{ACCEPTED} && ({EVENTS}).endsWith(' LEAVE1')")
+    with page.becomes(f"{ACCEPTED} && ({EVENTS}).endsWith(' LEAVE1')"):
+        page.click("[data-wanted]")
     x, y = page.middle(event("LEAVE1"))
     assert abs(x - place[0]) < 3 and abs(y - place[1]) < 3

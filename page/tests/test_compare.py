@@ -5,7 +5,8 @@ from __future__ import annotations
 from pathlib import Path
 
 from drive.browser import Browser
-from test_truth import ACCEPTED, edit
+from test_truth import edit
+from waits import ACCEPTED, edited
 
 RUN = ".head-tools .primary"
 OTHER = "[aria-label='The other model']"
@@ -16,19 +17,19 @@ ROWS = "[...document.querySelectorAll('.parting tbody tr')]"
 def keep_and_narrow(page: Browser) -> None:
     """Keep the bank as a version, and let the queue have five places: it faults in run 5."""
     page.js("sigma.store.keep_version('as it was')")
-    edit(page, "QUEUE : 0..500", "QUEUE : 0..5")
-    page.until(ACCEPTED)
+    with edited(page):
+        edit(page, "QUEUE : 0..500", "QUEUE : 0..5")
     page.click("#tab-compare")
     page.js("document.querySelector(values[0]).focus()", OTHER)
-    page.keys("“as")
-    page.until(f"document.querySelector(values[0]).value.startsWith('version:')", 20, OTHER)
+    with page.becomes(f"document.querySelector(values[0]).value.startsWith('version:')", OTHER):
+        page.keys("“as")
 
 
 def test_a_run_shows_where_two_models_part(page: Browser) -> None:
     """Both histories stand side by side, and the first line that differs is marked."""
     keep_and_narrow(page)
-    page.click(RUN)
-    page.until(f"{RESULT}?.verdict.how === 'run'", 60)
+    with page.becomes(f"{RESULT}?.verdict.how === 'run'"):
+        page.click(RUN)
     verdict = page.js(f"return {RESULT}.verdict")
     told = page.js("return document.querySelector('.word').textContent")
     assert f"run {verdict['run']} shows it" in told and f"seed {verdict['seed']}" in told
@@ -42,8 +43,8 @@ def test_a_run_shows_where_two_models_part(page: Browser) -> None:
     assert (
         page.js("return document.querySelector('.they-part').getBoundingClientRect().height") > 10
     )
-    page.click(".word button")
-    page.until("sigma.run.result && sigma.app.tab === 'run'", 60)
+    with page.becomes("sigma.run.result && sigma.app.tab === 'run'"):
+        page.click(".word button")
     assert page.js("return sigma.run.result.made.settings.seed") == verdict["seed"]
     assert page.js("return sigma.run.result.value.course.last") == verdict["lines"]["first"]
 
@@ -51,54 +52,54 @@ def test_a_run_shows_where_two_models_part(page: Browser) -> None:
 def test_a_comparison_is_of_both_texts(page: Browser) -> None:
     """It is out of date after an edit, another choice or other settings, and fresh again after Undo."""
     keep_and_narrow(page)
-    page.click(RUN)
-    page.until(RESULT, 60)
+    with page.becomes(RESULT):
+        page.click(RUN)
     stale = "document.querySelector('.compare-tab .stale')"
     assert page.js(f"return {stale}") is None
-    edit(page, "3..9;", "3..8;")
-    page.until(f"{stale}?.textContent.includes('the model has changed')")
-    page.js("sigma.store.undo()")
-    page.until(f"{ACCEPTED} && !{stale}")
-    page.js("sigma.compare.choose('example:clinic')")
-    page.until(f"{stale}?.textContent.includes('the other model has changed')")
-    page.click(RUN)
-    page.until(f"{RESULT}.verdict.how === 'declared' && !{stale}", 60)
+    with page.becomes(f"{stale}?.textContent.includes('the model has changed')"):
+        edit(page, "3..9;", "3..8;")
+    with page.becomes(f"{ACCEPTED} && !{stale}"):
+        page.js("sigma.store.undo()")
+    with page.becomes(f"{stale}?.textContent.includes('the other model has changed')"):
+        page.js("sigma.compare.choose('example:clinic')")
+    with page.becomes(f"{RESULT}.verdict.how === 'declared' && !{stale}"):
+        page.click(RUN)
     assert "watch QUEUE, IDLE, CLOSE;" in page.js(
         "return document.querySelector('.parting').textContent"
     )
-    page.write(".compare-tab [data-setting=compared]", "30")
-    page.until(f"{stale}?.textContent.includes('the settings have changed')")
-    page.js("sigma.open_example('clinic')")
-    page.until("document.querySelector('.compare-tab .blank')")
+    with page.becomes(f"{stale}?.textContent.includes('the settings have changed')"):
+        page.write(".compare-tab [data-setting=compared]", "30")
+    with page.becomes("document.querySelector('.compare-tab .blank')"):
+        page.js("sigma.open_example('clinic')")
 
 
 def test_of_equal_texts_no_more_is_said_than_the_program_says(page: Browser) -> None:
     """The words are those of its answer, whichever it gives; more runs are asked for by a button."""
     page.click("#tab-compare")
     page.js("sigma.compare.choose('example:bank')")
-    page.click(RUN)
-    page.until(RESULT, 60)
+    with page.becomes(RESULT):
+        page.click(RUN)
     word = page.js(f"return {RESULT}.verdict.word")
     title = page.js("return document.querySelector('.word h3').textContent")
     assert (word, title) in (("same", "They mean the same"), ("unknown", "No difference was found"))
     assert page.js("return document.querySelector('.exact pre').textContent") == f"{word}\n"
     if word == "unknown":
-        page.click(".word button")
-        page.until("sigma.compare.result.made.settings.runs === 200", 60)
+        with page.becomes("sigma.compare.result.made.settings.runs === 200"):
+            page.click(".word button")
 
 
 def test_the_model_before_a_reduction_is_at_hand(page: Browser) -> None:
     """After the result was taken, the model from before is one choice away; no run differs."""
-    page.js("sigma.open_example('polling')")
-    page.until(f"{ACCEPTED} && sigma.store.shown.name === 'POLLING'")
-    page.js("sigma.command('reduce')")
-    page.until("document.querySelector('.checks .good')", 60)
-    page.click(".steps .primary")
-    page.until("sigma.store.verdict.state === 'accepted' && sigma.store.changed")
+    with page.becomes(f"{ACCEPTED} && sigma.store.shown.name === 'POLLING'"):
+        page.js("sigma.open_example('polling')")
+    with page.becomes("document.querySelector('.checks .good')"):
+        page.js("sigma.command('reduce')")
+    with page.becomes("sigma.store.verdict.state === 'accepted' && sigma.store.changed"):
+        page.click(".steps .primary")
     page.click("#tab-compare")
     page.js("sigma.compare.choose('before')")
-    page.click(RUN)
-    page.until(RESULT, 60)
+    with page.becomes(RESULT):
+        page.click(RUN)
     assert page.js(f"return {RESULT}.verdict.word") in ("same", "unknown")
     assert page.js(f"return {RESULT}.second.vertices.length > {RESULT}.first.vertices.length")
 
@@ -119,10 +120,11 @@ def test_another_model_that_is_refused_is_said(page: Browser, root: Path) -> Non
         " HTMLInputElement.prototype.click = click; };",
         bank,
     )
-    page.click(".compare-tab .card button")
-    page.until("document.querySelector(values[0]).value === 'file:0'", 20, OTHER)
-    page.click(RUN)
-    told = page.until("document.querySelector('.note.bad')?.textContent", 60)
-    assert "theirs.sigma" in str(told) and "QEUE" in str(told)
+    with page.becomes("document.querySelector(values[0]).value === 'file:0'", OTHER):
+        page.click(".compare-tab .card button")
+    with page.becomes("document.querySelector('.note.bad')"):
+        page.click(RUN)
+    told = page.js("return document.querySelector('.note.bad').textContent")
+    assert "theirs.sigma" in told and "QEUE" in told
     assert page.js("return sigma.compare.result") is None
     assert page.js("return sigma.store.doc.file") == "bank.sigma"

@@ -4,13 +4,12 @@ from __future__ import annotations
 
 import base64
 import gzip
-import time
 from pathlib import Path
 
 from conftest import wait_for_model
 from drive.browser import Browser
+from waits import edited, saved
 
-ACCEPTED = "sigma.store.verdict.state === 'accepted'"
 SHOP = "model LINKED;\nvertex A {\n  schedule A after 1;\n}\nend\n"
 
 
@@ -22,8 +21,8 @@ def linked(address: str, text: str, name: str = "") -> str:
 
 def edit(page: Browser) -> None:
     """Change the text, and wait until the browser keeps it."""
-    page.js("sigma.store.edit(sigma.store.doc.text + '# mine\\n', 'Typing')")
-    page.until(ACCEPTED)
+    with edited(page):
+        page.js("sigma.store.edit(sigma.store.doc.text + '# mine\\n', 'Typing')")
     page.until("(localStorage.getItem('sigma2.doc') || '').includes('# mine')")
 
 
@@ -37,37 +36,40 @@ def reload(page: Browser, address: str) -> None:
 def test_a_link_asks_before_it_replaces_kept_work(page: Browser, address: str) -> None:
     """The work of an earlier visit stays until the person says otherwise."""
     edit(page)
-    reload(page, linked(address, SHOP, "linked.sigma"))
-    page.until("document.querySelector('dialog .choices')")
+    with page.becomes("document.querySelector('dialog .choices')"):
+        reload(page, linked(address, SHOP, "linked.sigma"))
     assert page.js("return sigma.store.doc.text").endswith("# mine\n")
-    page.click("dialog .choices button:nth-child(3)")
-    time.sleep(0.3)
+    with page.becomes("!document.querySelector('dialog')"):
+        page.click("dialog .choices button:nth-child(3)")
+    page.still()
     assert page.js("return sigma.store.doc.text").endswith("# mine\n")
     assert page.js("return location.hash") == ""
 
 
 def test_a_link_opens_where_nothing_is_lost(page: Browser, address: str) -> None:
     """Its file is named so that Save writes a model, and its address leaves the page."""
-    reload(page, linked(address, SHOP, "invoice.bat"))
-    page.until("sigma.store.doc.text.startsWith('model LINKED')")
+    with page.becomes("sigma.store.doc.text.startsWith('model LINKED')"):
+        reload(page, linked(address, SHOP, "invoice.bat"))
     assert page.js("return sigma.store.doc.file") == "invoice.sigma"
 
 
 def test_a_link_that_unpacks_to_too_much_is_refused(page: Browser, address: str) -> None:
     """64 MiB of blanks pack to less than 100 KB."""
-    reload(page, linked(address, " " * 2**26))
-    page.until("(document.querySelector('.note.bad')?.textContent ?? '').includes('4,194,304')")
+    with page.becomes(
+        "(document.querySelector('.note.bad')?.textContent ?? '').includes('4,194,304')"
+    ):
+        reload(page, linked(address, " " * 2**26))
 
 
 def test_an_example_asks_before_it_replaces_changes(page: Browser) -> None:
     """Stay here leaves the text; Open without saving opens, and Undo brings it back."""
     edit(page)
-    page.js("sigma.command('examples')")
-    page.until("document.querySelector('[data-example=clinic]')")
-    page.js("document.querySelector('[data-example=clinic]').click()")
-    page.until("document.querySelector('dialog .choices')")
-    page.click("dialog .choices button:nth-child(2)")
-    page.until("sigma.store.doc.file === 'clinic.sigma'")
+    with page.becomes("document.querySelector('[data-example=clinic]')"):
+        page.js("sigma.command('examples')")
+    with page.becomes("document.querySelector('dialog .choices')"):
+        page.js("document.querySelector('[data-example=clinic]').click()")
+    with page.becomes("sigma.store.doc.file === 'clinic.sigma'"):
+        page.click("dialog .choices button:nth-child(2)")
     page.js("sigma.store.undo()")
     assert page.js("return sigma.store.doc.text").endswith("# mine\n")
 
@@ -80,8 +82,9 @@ def test_what_the_browser_kept_is_checked(page: Browser, address: str) -> None:
         "addEventListener('pagehide', () => localStorage.setItem('sigma2.doc', doc));"
     )
     reload(page, address)
-    page.click("#tab-experiments")
-    page.until("document.querySelectorAll('.design').length === 1")
+    with page.becomes("document.querySelector('.design')?.offsetParent"):
+        page.click("#tab-experiments")
+    assert page.js("return document.querySelectorAll('.design').length") == 1
 
 
 def test_a_reload_keeps_changes_settings_and_refused_drafts(page: Browser, address: str) -> None:
@@ -89,8 +92,8 @@ def test_a_reload_keeps_changes_settings_and_refused_drafts(page: Browser, addre
     page.click(".run-tab .settings-fold summary")
     page.write('.run-tab [data-setting="until"]', "600", "Tab")
     page.js("sigma.app.pick({ kind: 'event', name: 'LEAVE' })")
-    page.write('[data-field="event:LEAVE/changes"]', "IDLE = 1", "Tab")
-    page.until("document.querySelector('.field.bad')")
+    with page.becomes("document.querySelector('.field.bad')"):
+        page.write('[data-field="event:LEAVE/changes"]', "IDLE = 1", "Tab")
     assert page.js("return document.querySelector('.doc-state').textContent") != "Saved"
     edit(page)
     reload(page, address)
@@ -101,13 +104,10 @@ def test_a_reload_keeps_changes_settings_and_refused_drafts(page: Browser, addre
 
 def test_save_writes_the_text(page: Browser, downloads: Path) -> None:
     """The saved file is the text, and the head says so."""
+    file = downloads / "saved_here.sigma"
+    file.unlink(missing_ok=True)
     page.js("sigma.store.set({ file: 'saved_here.sigma' })")
     edit(page)
-    page.chord("Control", "s")
-    file = downloads / "saved_here.sigma"
-    for _ in range(100):
-        if file.is_file() and file.read_text(encoding="utf-8"):
-            break
-        time.sleep(0.1)
-    assert file.read_text(encoding="utf-8") == page.js("return sigma.store.doc.text")
-    page.until("document.querySelector('.doc-state').textContent === 'Saved'")
+    with page.becomes("document.querySelector('.doc-state').textContent === 'Saved'"):
+        page.chord("Control", "s")
+    saved(file, page.js("return sigma.store.doc.text").encode())

@@ -6,7 +6,8 @@ from typing import Any
 
 from conftest import wait_for_model
 from drive.browser import Browser
-from test_truth import ACCEPTED, RUN, event, field, text
+from test_truth import RUN, event, field, text
+from waits import ACCEPTED
 
 PATHS = "Object.fromEntries(sigma.app.canvas.scene.lines.map(line => [line.key, line.route.path]))"
 AT = "(({ x, y, k }) => [x, y, k])(sigma.app.canvas.view.at)"
@@ -31,24 +32,24 @@ def test_a_drag_spoils_no_other_line_and_is_one_step(page: Browser) -> None:
     """Routes stay while both of their ends stay; Undo brings all of them back."""
     before, whole = page.js(f"return [{PATHS}, JSON.stringify({PATHS})]")
     x, y = page.middle(event("LEAVE"))
-    page.drag([(x, y), (x + 20, y + 8), (x + 48, y + 16)])
-    page.until("sigma.store.doc.text.includes('# places')")
+    with page.becomes("sigma.store.doc.text.includes('# places')"):
+        page.drag([(x, y), (x + 20, y + 8), (x + 48, y + 16)])
     page.until(ACCEPTED)
     after = page.js(f"return {PATHS}")
     assert {key for key in before if before[key] != after[key]} == {
         key for key in before if "LEAVE" in key.split(" ")
     }
-    page.click('[aria-label^="Undo"]')
-    page.until("!sigma.store.doc.text.includes('# places')")
-    page.until(f"JSON.stringify({PATHS}) === values[0]", 20, whole)
+    with page.becomes("!sigma.store.doc.text.includes('# places')"):
+        page.click('[aria-label^="Undo"]')
+    page.until(f"JSON.stringify({PATHS}) === values[0]", whole)
 
 
 def test_a_double_click_draws_there_and_the_paper_stands_still(page: Browser) -> None:
     """The new event lies where one pointed; nothing else moves."""
     place, before = paper(page, 0.15, 0.4), view(page)
     boxes = page.js("return sigma.app.canvas.places")
-    page.click_at(place, 2)
-    page.until("document.querySelector('[data-part=\"event:EVENT1\"] .body')")
+    with page.becomes("document.querySelector('[data-part=\"event:EVENT1\"] .body')"):
+        page.click_at(place, 2)
     page.until(ACCEPTED)
     x, y = page.middle(event("EVENT1"))
     assert abs(x - place[0]) < 3 and abs(y - place[1]) < 3
@@ -60,8 +61,8 @@ def test_a_double_click_draws_there_and_the_paper_stands_still(page: Browser) ->
 def test_the_menu_of_several_events_is_for_all_of_them(page: Browser) -> None:
     """It lines them up, if it is asked for on one of them; on another event it is for that one alone."""
     page.click(event("ARRIVE"))
-    page.click(event("LEAVE"), held="Shift")
-    page.until("sigma.app.more.length === 2")
+    with page.becomes("sigma.app.more.length === 2"):
+        page.click(event("LEAVE"), held="Shift")
     ask = (
         "document.querySelector(values[0]).dispatchEvent("
         "new MouseEvent('contextmenu', { bubbles: true, cancelable: true, clientX: 300, clientY: 300 }));"
@@ -78,19 +79,24 @@ def test_the_menu_of_several_events_is_for_all_of_them(page: Browser) -> None:
 
 def test_the_first_event_lies_where_one_pointed(page: Browser) -> None:
     """On an empty paper too; a model that is opened then is shown whole."""
-    page.js("sigma.command('new')")
-    page.until("!sigma.store.doc.text && !sigma.app.canvas.scene.nodes.size")
-    page.size(1200, 800)
-    page.size(1400, 900)
+    with page.becomes("!sigma.store.doc.text && !sigma.app.canvas.scene.nodes.size"):
+        page.js("sigma.command('new')")
+    with page.becomes("innerWidth === 1200"):
+        page.size(1200, 800)
+    with page.becomes("innerWidth === 1400"):
+        page.size(1400, 900)
     page.until("document.querySelector('.minimap.none')")
+    page.still()
     place = paper(page, 0.2, 0.2)
-    page.click_at(place, 2)
-    page.until("document.querySelector('[data-part=\"event:EVENT1\"] .body')")
+    with page.becomes("document.querySelector('[data-part=\"event:EVENT1\"] .body')"):
+        page.click_at(place, 2)
     page.until(ACCEPTED)
     x, y = page.middle(event("EVENT1"))
     assert abs(x - place[0]) < 3 and abs(y - place[1]) < 3
-    page.js("sigma.open_example('clinic')")
-    page.until(f"{ACCEPTED} && sigma.store.shown.name !== 'MODEL' && !sigma.app.canvas.busy")
+    with page.becomes(
+        f"{ACCEPTED} && sigma.store.shown.name !== 'MODEL' && !sigma.app.canvas.busy"
+    ):
+        page.js("sigma.open_example('clinic')")
     page.until("sigma.app.canvas.scene.nodes.size > 4")
     at, box, room = page.js(
         f"return [{AT}, sigma.app.canvas.scene.bounds(), sigma.app.canvas.view.room]"
@@ -101,21 +107,24 @@ def test_the_first_event_lies_where_one_pointed(page: Browser) -> None:
 
 def test_stepping_moves_no_graph_that_is_seen_whole(page: Browser) -> None:
     """Only what can't be seen is brought into view."""
-    page.click(RUN)
-    page.until("sigma.run.result")
+    with page.becomes("sigma.run.result"):
+        page.click(RUN)
     page.until("document.querySelector('.transport-row')")
     page.js("sigma.app.canvas.fit()")
     before = view(page)
-    for _ in range(12):
-        page.js("sigma.run.step(1)")
-        page.until("document.querySelector('.node.lit')")
+    shown = "Number(document.querySelector('.transport input[type=range]').value) === values[0]"
+    for step in range(1, 13):
+        with page.becomes(f"{shown} && document.querySelector('.node.lit')", step):
+            page.js("sigma.run.step(1)")
         assert view(page) == before
 
 
 def test_numbers_of_one_moment_agree(page: Browser) -> None:
     """The big number beside a course is that of the table, at each step."""
-    page.click(RUN)
-    page.until("sigma.run.result && document.querySelector('.course-name .now')?.textContent")
+    with page.becomes(
+        "sigma.run.result && document.querySelector('.course-name .now')?.textContent"
+    ):
+        page.click(RUN)
     for _ in range(15):
         page.js("sigma.run.step(1)")
         shown = page.js(
@@ -151,8 +160,8 @@ def test_the_graph_is_one_tab_stop_and_arrows_lead_along_its_edges(page: Browser
     page.keys("se")
     assert page.js(f"return {FOCUSED}") == "event:SERVE"
     assert page.js(stops) == 1
-    page.chord("Enter")
-    page.until("document.activeElement.dataset.field === 'event:SERVE/name'")
+    with page.becomes("document.activeElement.dataset.field === 'event:SERVE/name'"):
+        page.chord("Enter")
 
 
 def test_single_letters_are_keys_on_the_paper_alone(page: Browser) -> None:
@@ -162,8 +171,8 @@ def test_single_letters_are_keys_on_the_paper_alone(page: Browser) -> None:
     page.keys("n")
     assert text(page) == before
     page.js("sigma.app.canvas.keyboard.enter()")
-    page.keys("n")
-    page.until("sigma.store.doc.text.includes('vertex EVENT1')")
+    with page.becomes("sigma.store.doc.text.includes('vertex EVENT1')"):
+        page.keys("n")
     page.until("document.querySelector('[data-part=\"event:EVENT1\"]')")
     over = page.js(
         "const all = [...sigma.app.canvas.scene.nodes.values()].map(node => node.box);"
@@ -176,17 +185,17 @@ def test_single_letters_are_keys_on_the_paper_alone(page: Browser) -> None:
 
 def test_a_name_and_a_label_are_written_on_the_paper(page: Browser) -> None:
     """A double click edits the word that it hits."""
-    page.click('.stage-pane [data-part="event:SERVE"] .name', 2)
-    page.until("document.querySelector('.on-paper')")
+    with page.becomes("document.querySelector('.on-paper')"):
+        page.click('.stage-pane [data-part="event:SERVE"] .name', 2)
     page.chord("Control", "a")
-    page.keys("HELP", "Enter")
-    page.until("sigma.store.doc.text.includes('vertex HELP')")
+    with page.becomes("sigma.store.doc.text.includes('vertex HELP')"):
+        page.keys("HELP", "Enter")
     page.until(ACCEPTED)
-    page.click('.stage-pane .label[data-of="edge:HELP:0"] text', 2)
-    page.until("document.querySelector('.on-paper')")
+    with page.becomes("document.querySelector('.on-paper')"):
+        page.click('.stage-pane .label[data-of="edge:HELP:0"] text', 2)
     page.chord("Control", "a")
-    page.keys("7", "Enter")
-    page.until("sigma.store.doc.text.includes('schedule LEAVE after 7;')")
+    with page.becomes("sigma.store.doc.text.includes('schedule LEAVE after 7;')"):
+        page.keys("7", "Enter")
 
 
 def test_the_wheel_pans_and_with_control_it_zooms(page: Browser) -> None:
@@ -205,11 +214,11 @@ def test_the_wheel_pans_and_with_control_it_zooms(page: Browser) -> None:
 
 def test_the_guide_stands_alone_on_an_empty_page(page: Browser) -> None:
     """What the empty page offers is away while the guide is open."""
-    page.js("sigma.store.open({ ...sigma.store.doc, text: '', saved: '', file: '' }, 'New')")
-    page.until("sigma.store.verdict.state === 'empty'")
+    with page.becomes("sigma.store.verdict.state === 'empty'"):
+        page.js("sigma.store.open({ ...sigma.store.doc, text: '', saved: '', file: '' }, 'New')")
     page.until("document.querySelector('.welcome').offsetParent !== null")
-    page.js("[...document.querySelectorAll('.welcome button')][0].click()")
-    page.until("!document.querySelector('.guide').hidden")
+    with page.becomes("!document.querySelector('.guide').hidden"):
+        page.js("[...document.querySelectorAll('.welcome button')][0].click()")
     assert page.js("return getComputedStyle(document.querySelector('.welcome')).display") == "none"
 
 
@@ -218,7 +227,12 @@ def test_the_thumb_has_44_pixels(page: Browser, address: str) -> None:
     page.size(390, 844)
     page.open(address)
     wait_for_model(page)
-    page.js("sigma.app.pick({ kind: 'event', name: 'SERVE' })")
+    with page.becomes("sigma.run.result"):
+        page.js("sigma.command('run')")
+    page.js(
+        "for (const each of document.querySelectorAll('.run-tab details')) each.open = true;"
+        "sigma.app.pick({ kind: 'event', name: 'SERVE' })"
+    )
     small = (
         "const seen = [];"
         "for (const part of ['text', 'graph', 'form', 'dock']) {"
@@ -228,7 +242,8 @@ def test_the_thumb_has_44_pixels(page: Browser, address: str) -> None:
         "    if (!box.width || each.closest('.CodeMirror')) continue;"
         "    if (['range', 'checkbox'].includes(each.type)) continue;"
         "    if (each.classList.contains('doc-title')) continue;"
-        "    if (Math.round(box.height) < 44 && !each.closest('.field-box'))"
+        "    const place = each.closest('.field-box') ?? each;"
+        "    if (Math.round(place.getBoundingClientRect().height) < 44)"
         "      seen.push([part, each.className || each.tagName, each.textContent, box.height]);"
         "  }"
         "  if (document.documentElement.scrollWidth > 390) seen.push([part, 'is too wide']);"

@@ -29,8 +29,8 @@ PLACED = (
 def open_plant(page: Browser) -> None:
     """Open the model of 201 events."""
     text = (PAGE / "models" / "plant.sigma").read_text(encoding="utf-8")
-    page.js("sigma.store.open({ ...sigma.store.doc, text: values[0] }, 'Open')", text)
-    page.until("!sigma.app.canvas.busy && sigma.app.canvas.scene.nodes.size === 201", 60)
+    with page.becomes("!sigma.app.canvas.busy && sigma.app.canvas.scene.nodes.size === 201"):
+        page.js("sigma.store.open({ ...sigma.store.doc, text: values[0] }, 'Open')", text)
 
 
 @pytest.mark.parametrize("zooms", [False, True], ids=["pan", "zoom"])
@@ -49,8 +49,9 @@ def test_it_is_painted_while_it_moves_and_drawn_where_it_rests(page: Browser, zo
 def test_a_press_meets_what_is_seen(page: Browser) -> None:
     """A press right after a movement ends it: what lies under the pointer is picked."""
     open_plant(page)
-    page.js("sigma.app.canvas.seek('START20', true)")
-    page.until(PLACED)
+    drawn = "document.querySelector('.stage-pane [data-part=\"event:START20\"] .body')"
+    with page.becomes(f"{drawn} && !{MOVING} && {PLACED}"):
+        page.js("sigma.app.canvas.seek('START20', true)")
     place = page.middle('.stage-pane [data-part="event:START20"] .body')
     page.js(WHEEL, 40, False)
     page.click_at((place[0], place[1] - 40))
@@ -60,11 +61,13 @@ def test_a_press_meets_what_is_seen(page: Browser) -> None:
 
 def test_a_long_layout_tells_how_far_it_is_and_can_be_stopped(page: Browser) -> None:
     """After Stop the events stand in rows, and the page can be used."""
-    page.js("sigma.store.open({ ...sigma.store.doc, text: values[0] }, 'Open')", tangle(1900, 3800))
-    page.until("!document.querySelector('.stage-pane .laying-out').hidden", 60)
+    with page.becomes("!document.querySelector('.stage-pane .laying-out').hidden"):
+        page.js(
+            "sigma.store.open({ ...sigma.store.doc, text: values[0] }, 'Open')", tangle(1900, 3800)
+        )
     assert "1,900 events" in page.js("return document.querySelector('.laying-out').textContent")
-    page.js("document.querySelector('.stage-pane .laying-out button').click()")
-    page.until("!sigma.app.canvas.busy && sigma.app.canvas.scene.nodes.size === 1900", 60)
+    with page.becomes("!sigma.app.canvas.busy && sigma.app.canvas.scene.nodes.size === 1900"):
+        page.js("document.querySelector('.stage-pane .laying-out button').click()")
     assert page.js(
         "return sigma.app.canvas.scene.groups.length === 0"
         " && document.querySelector('.stage-pane .laying-out').hidden"

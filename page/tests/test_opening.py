@@ -42,7 +42,7 @@ def test_another_script_in_its_place_is_not_run(
     file = tmp_path / "other.html"
     changed = text[: found.start(1)] + base64.b64encode(other).decode() + text[found.end(1) :]
     file.write_text(changed, encoding="utf-8")
-    page.open(file.as_uri())
-    page.until("document.querySelector('script:not([id]):last-child')")
+    with page.becomes("document.querySelector('script:not([id]):last-child')"):
+        page.open(file.as_uri())
     assert page.js("return document.querySelector('.opening') !== null && !globalThis.sigma")
     assert page.complaints() != []

@@ -29,13 +29,14 @@ def pull(page: Browser, bar: str, to: float) -> None:
 @pytest.mark.parametrize("width", [1400, 1000, 800])
 def test_the_graph_keeps_room(page: Browser, width: int) -> None:
     """Both panes are pulled as far as they go; then the window gets smaller. Charts are drawn in what is left."""
-    page.click(RUN)
-    page.until("sigma.run.result && document.querySelector('.course-row')")
+    with page.becomes("sigma.run.result && document.querySelector('.course-row')"):
+        page.click(RUN)
     pull(page, "left", 1390)
     pull(page, "right", 10)
     try:
-        page.size(width, 700)
-        page.until(f"innerWidth === values[0] && {ROOM} >= 556", 20, width)
+        room = f"innerWidth === values[0] && innerHeight === 700 && {ROOM} >= 556"
+        with page.becomes(room, width):
+            page.size(width, 700)
         assert page.js("return document.documentElement.scrollWidth <= innerWidth")
         assert page.js("return document.querySelector('.canvas').offsetHeight >= 120")
         page.until("document.querySelectorAll('.course-row .plot rect').length > 3")
@@ -59,8 +60,8 @@ def test_a_bar_tells_how_far_it_can_be_pulled(page: Browser) -> None:
 
 def test_the_text_takes_the_focus_from_a_selection_that_cannot_be_read(page: Browser) -> None:
     """A selection in the parts of a field counts as none, and what is typed arrives."""
-    page.js(f"{HIDDEN}; sigma.app.editor.focus()")
-    page.until("sigma.app.editor.has_focus()")
+    with page.becomes("sigma.app.editor.has_focus()"):
+        page.js(f"{HIDDEN}; sigma.app.editor.focus()")
     page.chord("Control", "Home")
-    page.keys("# ")
-    page.until("sigma.store.doc.text.startsWith('# ')")
+    with page.becomes("sigma.store.doc.text.startsWith('# typed ')"):
+        page.keys("# typed ")

@@ -6,7 +6,7 @@ from collections.abc import Iterator
 
 import pytest
 from drive.browser import Browser
-from test_truth import ACCEPTED
+from waits import ACCEPTED
 
 SIZES = ((1400, 900), (1000, 800), (390, 844))
 TABS = ("run", "experiments", "reduce", "compare", "conflicts", "problems", "describe", "console")
@@ -20,10 +20,11 @@ BOXES = ".tab-body :is(button, .number, .field-box, .segments, .field-box input)
 @pytest.fixture(params=SIZES, ids=lambda size: str(size[0]))
 def sized(page: Browser, request: pytest.FixtureRequest) -> Iterator[Browser]:
     """Return a page of this size that shows the clinic, whose names are long."""
-    page.js("sigma.open_example('clinic')")
-    page.until(f"{ACCEPTED} && sigma.store.shown.name === 'CLINIC'")
+    with page.becomes(f"{ACCEPTED} && sigma.store.shown.name === 'CLINIC'"):
+        page.js("sigma.open_example('clinic')")
     page.size(*request.param)
-    page.until("innerWidth === values[0]", 20, request.param[0])
+    page.still()
+    assert page.js("return innerWidth") == request.param[0]
     yield page
     page.size(1400, 900)
 
@@ -31,7 +32,7 @@ def sized(page: Browser, request: pytest.FixtureRequest) -> Iterator[Browser]:
 def test_names_and_values_of_variables_are_whole(sized: Browser) -> None:
     """Two names that begin alike can be told apart, and `false` is read."""
     sized.js("sigma.app.pick(null); sigma.app.show_part('form')")
-    sized.until("document.querySelector('.var-row input')?.offsetParent")
+    sized.middle(".var-row input")
     assert sized.js(CUT, ".var-row input") == []
     assert sized.js(CUT, ".inspector") == []
 
@@ -52,8 +53,8 @@ def test_no_word_of_a_tab_leaves_its_box(sized: Browser) -> None:
 
 def test_what_is_said_of_an_event_stands_together(sized: Browser) -> None:
     """In Describe no empty room lies between the sentences of one event, however tall its neighbour is."""
-    sized.js("sigma.app.show_part('dock'); sigma.app.open_tab('describe')")
-    sized.until("document.querySelectorAll('.described section').length > 5", 60)
+    with sized.becomes("document.querySelectorAll('.described section').length > 5"):
+        sized.js("sigma.app.show_part('dock'); sigma.app.open_tab('describe')")
     gaps = sized.js(
         "return [...document.querySelectorAll('.described section')].flatMap(section =>"
         " [...section.children].slice(1).map((each, k) =>"

@@ -2,10 +2,9 @@
 
 from __future__ import annotations
 
-import time
-
 from drive.browser import Browser
-from test_truth import ACCEPTED, event, field
+from test_truth import event, field
+from waits import ACCEPTED, edited
 
 RUN = ".head-tools .primary"
 
@@ -17,36 +16,34 @@ def test_undo_in_a_field_takes_back_what_was_typed(page: Browser) -> None:
     page.click(field("event:SERVE/changes"))
     page.chord("Control", "End")
     page.keys(" + 7")
-    page.chord("Control", "z")
-    page.until(
+    with page.becomes(
         "!document.querySelector('[data-field=\"event:SERVE/changes\"]').value.endsWith('+ 7')"
-    )
+    ):
+        page.chord("Control", "z")
     assert page.js("return sigma.store.doc.text") == before
     assert page.js("return sigma.store.redo_label") is None
 
 
 def test_values_and_charts_tell_of_one_moment(page: Browser) -> None:
     """After the first ARRIVE one waits and two are idle, in the table and beside the charts."""
-    page.click(RUN)
-    page.until("sigma.run.result")
-    page.js("sigma.run.step(2)")
-    page.until("document.querySelector('.event-now h3')?.textContent.startsWith('ARRIVE')")
-    table = page.js(
-        "return [...document.querySelectorAll('.moment .values:not(.pending) tr')].slice(0, 2)"
-        ".map(row => row.querySelector('td').textContent)"
-    )
-    chart = page.js(
-        "return [...document.querySelectorAll('.course-row .now')].slice(0, 2).map(each => each.textContent)"
+    with page.becomes("sigma.run.result"):
+        page.click(RUN)
+    with page.becomes("document.querySelector('.event-now h3')?.textContent.startsWith('ARRIVE')"):
+        page.js("sigma.run.step(2)")
+    table, chart = page.js(
+        "const first = (css, of) => [...document.querySelectorAll(css)].slice(0, 2).map(each => of(each).textContent);"
+        "return [first('.moment .values:not(.pending) tr', row => row.querySelector('td')),"
+        " first('.course-row .now', each => each)]"
     )
     assert table == chart == ["1", "2"]
 
 
 def test_a_fault_names_event_change_values_and_seed(page: Browser) -> None:
     """A queue of at most 2 faults at ARRIVE, which stores 3."""
-    page.js("sigma.store.edit(sigma.store.doc.text.replace('0..500', '0..2'), 'Typing')")
-    page.until(ACCEPTED)
-    page.click(RUN)
-    page.until("document.querySelector('.fault-box button')", 60)
+    with edited(page):
+        page.js("sigma.store.edit(sigma.store.doc.text.replace('0..500', '0..2'), 'Typing')")
+    with page.becomes("document.querySelector('.fault-box button')"):
+        page.click(RUN)
     told = page.js("return document.querySelector('.fault-box').textContent")
     for word in ("ARRIVE", "QUEUE := QUEUE + 1", "QUEUE = 2 (0..2)", "seed 7"):
         assert word in told
@@ -56,61 +53,63 @@ def test_a_fault_names_event_change_values_and_seed(page: Browser) -> None:
 
 def test_a_model_with_a_starting_value_runs_at_once(page: Browser) -> None:
     """The first value of the parameter is taken where none is typed."""
-    page.js(
-        "sigma.open_example('emergency'); sigma.store.set({ settings: { ...sigma.store.doc.settings, start: '' } })"
-    )
-    page.until(f"{ACCEPTED} && sigma.store.shown.name === 'EMERGENCY'")
+    with page.becomes(f"{ACCEPTED} && sigma.store.shown.name === 'EMERGENCY'"):
+        page.js(
+            "sigma.open_example('emergency'); sigma.store.set({ settings: { ...sigma.store.doc.settings, start: '' } })"
+        )
     placeholder = page.until("document.querySelector('.run-tab [data-setting=start]')?.placeholder")
     assert placeholder == "3"
-    page.click(RUN)
-    page.until("sigma.run.result", 60)
+    with page.becomes("sigma.run.result"):
+        page.click(RUN)
 
 
 def test_play_from_a_later_event(page: Browser) -> None:
     """Event 101 has the values of the same event of the whole run."""
-    page.click(RUN)
-    page.until("sigma.run.result")
+    with page.becomes("sigma.run.result"):
+        page.click(RUN)
     whole = page.js("return sigma.run.result.value.frames.values[100]")
     page.js("sigma.store.set({ settings: { ...sigma.store.doc.settings, from: '100' } })")
-    page.click(RUN)
-    page.until("sigma.run.result.value.first === 100", 60)
+    with page.becomes("sigma.run.result.value.first === 100"):
+        page.click(RUN)
     assert page.js("return sigma.run.result.value.frames.values[0]") == whole
 
 
 def test_a_name_that_is_nearly_right_is_mended_by_a_click(page: Browser) -> None:
     """The form says which name is meant, and writes it."""
     page.click(event("LEAVE"))
-    page.write(field("event:LEAVE/changes"), "IDEL := IDEL + 1", "Tab")
-    page.until("document.querySelector('.problem')?.textContent.includes('is IDLE meant?')")
-    page.click(".problem .link")
-    page.until("!document.querySelector('.field.bad')")
+    with page.becomes("document.querySelector('.problem')?.textContent.includes('is IDLE meant?')"):
+        page.write(field("event:LEAVE/changes"), "IDEL := IDEL + 1", "Tab")
+    with page.becomes("!document.querySelector('.field.bad')"):
+        page.click(".problem .link")
     assert "IDEL" not in page.js("return sigma.store.doc.text")
 
 
 def test_a_name_is_declared_from_the_form(page: Browser) -> None:
     """The variable and the change come in one step."""
     page.click(event("LEAVE"))
-    page.write(
-        field("event:LEAVE/changes"), "IDLE := IDLE + 1\nSERVED_TODAY := SERVED_TODAY + 1", "Tab"
-    )
-    page.until("document.querySelector('.problem .link')")
-    page.click(".problem .link")
-    page.until("sigma.store.doc.text.includes('var SERVED_TODAY')")
+    with page.becomes("document.querySelector('.problem .link')"):
+        page.write(
+            field("event:LEAVE/changes"),
+            "IDLE := IDLE + 1\nSERVED_TODAY := SERVED_TODAY + 1",
+            "Tab",
+        )
+    with page.becomes("sigma.store.doc.text.includes('var SERVED_TODAY')"):
+        page.click(".problem .link")
     page.js("sigma.store.undo()")
     assert "SERVED_TODAY" not in page.js("return sigma.store.doc.text")
 
 
 def test_a_table_of_a_distribution_becomes_a_delay(page: Browser) -> None:
     """An exponential delay by the form of an edge."""
-    page.js("sigma.app.pick({ kind: 'edge', from: 'ARRIVE', place: 0 })")
-    page.until("document.querySelector('[aria-label=\"A drawn delay\"]')")
+    with page.becomes("document.querySelector('[aria-label=\"A drawn delay\"]')"):
+        page.js("sigma.app.pick({ kind: 'edge', from: 'ARRIVE', place: 0 })")
     page.js(
         "const select = document.querySelector('[aria-label=\"A drawn delay\"]');"
         "select.value = 'new'; select.onchange({ target: select });"
     )
     page.write("[data-number=mean]", "4")
-    page.click("dialog .choices .primary")
-    page.until("/schedule ARRIVE after draw from 2 by TIMES;/.test(sigma.store.doc.text)")
+    with page.becomes("/schedule ARRIVE after draw from 2 by TIMES;/.test(sigma.store.doc.text)"):
+        page.click("dialog .choices .primary")
     page.until(ACCEPTED)
 
 
@@ -119,28 +118,28 @@ def test_variables_are_searched(page: Browser) -> None:
     names = "[...document.querySelectorAll('.var-row[role=group]')].map(each => each.getAttribute('aria-label'))"
     assert page.js("return document.querySelector('.search-vars') === null")
     declared = "\n".join(f"var EXTRA{k} : 0..9 = 0;" for k in range(20))
-    page.js(
-        "sigma.store.edit(sigma.store.doc.text.replace('watch ', values[0] + '\\nwatch '), 'Typing')",
-        declared,
-    )
-    page.until(ACCEPTED)
+    with edited(page):
+        page.js(
+            "sigma.store.edit(sigma.store.doc.text.replace('watch ', values[0] + '\\nwatch '), 'Typing')",
+            declared,
+        )
     page.click(".search-vars")
     page.keys("extra1")
     assert page.until(f"{names}.length === 11 && {names}") == [
         f"EXTRA{k}" for k in (1, *range(10, 20))
     ]
-    page.keys("x")
-    page.until(f"{names}.length === 0 && document.activeElement.matches('.search-vars')")
-    page.js("sigma.app.go_to_field('var:QUEUE', 'high')")
-    page.until(f"{names}.length === 24")
+    with page.becomes(f"{names}.length === 0 && document.activeElement.matches('.search-vars')"):
+        page.keys("x")
+    with page.becomes(f"{names}.length === 24"):
+        page.js("sigma.app.go_to_field('var:QUEUE', 'high')")
     assert page.js("return document.activeElement.dataset.field") == "var:QUEUE/high"
 
 
 def test_templates_are_put_in(page: Browser) -> None:
     """A breakdown beside the bank, in one step of Undo."""
     page.js("sigma.app.pick(null)")
-    page.click("[data-template=breakdown]")
-    page.until("sigma.store.doc.text.includes('vertex FAIL')")
+    with page.becomes("sigma.store.doc.text.includes('vertex FAIL')"):
+        page.click("[data-template=breakdown]")
     page.until(ACCEPTED)
     page.js("sigma.store.undo()")
     assert "vertex FAIL" not in page.js("return sigma.store.doc.text")
@@ -149,13 +148,13 @@ def test_templates_are_put_in(page: Browser) -> None:
 def test_designs_are_compared_on_the_same_seeds(page: Browser) -> None:
     """Three tellers in place of two: the difference and its sentence are shown."""
     page.click("#tab-experiments")
-    page.click(".card.add")
-    page.until("sigma.store.doc.designs.length === 2")
-    page.js("sigma.store.edit(sigma.store.doc.text.replace('0..2 = 2', '0..3 = 3'), 'Typing')")
+    with page.becomes("sigma.store.doc.designs.length === 2"):
+        page.click(".card.add")
     page.js("sigma.store.set({ settings: { ...sigma.store.doc.settings, runs: '200' } })")
-    page.until(ACCEPTED)
-    page.click(RUN)
-    page.until("document.querySelector('.verdict')", 120)
+    with edited(page):
+        page.js("sigma.store.edit(sigma.store.doc.text.replace('0..2 = 2', '0..3 = 3'), 'Typing')")
+    with page.becomes("document.querySelector('.verdict')"):
+        page.click(RUN)
     assert "QUEUE is lower in “Design 2” than in “Base”" in page.js(
         "return document.querySelector('.verdict').textContent"
     )
@@ -167,13 +166,12 @@ def test_designs_are_compared_on_the_same_seeds(page: Browser) -> None:
 
 def test_reduce_explains_and_takes(page: Browser) -> None:
     """The certificate is sound, the smaller model is in place, and Undo brings the other back."""
-    page.js("sigma.open_example('polling')")
-    page.until(f"{ACCEPTED} && sigma.store.shown.name === 'POLLING'")
-    page.js("sigma.command('reduce')")
-    page.until("document.querySelector('.checks .good')?.textContent.includes('sound')", 60)
-    page.click(".reduce-result .primary")
-    page.until(ACCEPTED)
-    assert page.js("return sigma.store.undo_label").startswith("Take the result")
+    with page.becomes(f"{ACCEPTED} && sigma.store.shown.name === 'POLLING'"):
+        page.js("sigma.open_example('polling')")
+    with page.becomes("document.querySelector('.checks .good')?.textContent.includes('sound')"):
+        page.js("sigma.command('reduce')")
+    with edited(page, "Take the result"):
+        page.click(".reduce-result .primary")
     # Comments of what stays stay, and what is in place isn't called out of date.
     text = page.js("return sigma.store.doc.text")
     assert text.startswith("# ") and "vertex ALARM" not in text
@@ -183,8 +181,8 @@ def test_reduce_explains_and_takes(page: Browser) -> None:
 
 def test_conflicts_say_how_often_they_met(page: Browser) -> None:
     """Each pair has a number of ticks."""
-    page.click("#tab-conflicts")
-    page.until("document.querySelector('.conflicts-tab td:last-child')", 60)
+    with page.becomes("document.querySelector('.conflicts-tab td:last-child')"):
+        page.click("#tab-conflicts")
     told = page.js(
         "return [...document.querySelectorAll('.conflicts-tab .panel:first-child tbody td:last-child')].map(each => each.textContent)"
     )
@@ -199,5 +197,5 @@ def test_each_control_has_a_name(page: Browser) -> None:
       .map(each => each.outerHTML.slice(0, 90))"""
     for tab in ("run", "experiments", "reduce", "conflicts", "describe", "console"):
         page.click(f"#tab-{tab}")
-        time.sleep(0.2)
+        page.still()
         assert page.js(nameless) == []

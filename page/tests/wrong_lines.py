@@ -92,8 +92,15 @@ WRONG = (
     ),
     Wrong(
         "loses_what_was_typed_meanwhile",
-        DRAFTS,
-        "if (store.revision !== revision) { await store.check(); return this.attempt(id, drafts); }",
+        STORE,
+        "if (this.revision === revision) return { text, verdict };",
+        "return { text, verdict };",
+        "store",
+    ),
+    Wrong(
+        "writes_into_another_document",
+        STORE,
+        "if (this.doc.id !== id) return null;",
         "",
         "store",
     ),

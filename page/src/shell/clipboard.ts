@@ -48,11 +48,11 @@ export class Clipboard {
 
   /** Copy and Cut of a menu. */
   async take(cuts: boolean): Promise<void> {
-    const text = this.excerpt();
+    const text = this.excerpt(), { picked, more } = this.app;
     if (text === null) return;
     try { await navigator.clipboard.writeText(text); }
     catch { note(`The browser keeps its clipboard from menus: press ${keys_shown(cuts ? "Ctrl+X" : "Ctrl+C")}.`, "bad"); return; }
-    if (cuts) await this.inspector.remove("Cut"); else this.tell_copied();
+    if (cuts) await this.inspector.remove("Cut", { picked, more }); else this.tell_copied();
   }
 
   /** Paste of a menu, at a place of the paper. */

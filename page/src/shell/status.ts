@@ -47,8 +47,9 @@ export class Status {
   }
   private fix({ fix }: Refusal): HTMLElement | null {
     if (!fix) return null;
-    const { store } = this.app;
-    return h("button", { className: "small", onclick: () => store.edit(store.doc.text.slice(0, fix.from) + fix.text + store.doc.text.slice(fix.to), fix.title) }, fix.title);
+    const { store } = this.app, { doc: { text } } = store;
+    // While another text is checked, what was found in the one before stands here still.
+    return h("button", { className: "small", onclick: () => { if (store.doc.text === text) store.edit(text.slice(0, fix.from) + fix.text + text.slice(fix.to), fix.title); } }, fix.title);
   }
 }
 

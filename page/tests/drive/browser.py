@@ -8,7 +8,8 @@ from __future__ import annotations
 import json
 import time
 from abc import ABC, abstractmethod
-from collections.abc import Sequence
+from collections.abc import Iterator, Sequence
+from contextlib import contextmanager
 from typing import Any
 
 KEYS = {
@@ -29,6 +30,23 @@ KEYS = {
     **{f"F{k}": chr(0xE030 + k) for k in range(1, 13)},
 }
 Place = tuple[float, float]
+# A wait ends as soon as what it waits for is so; on a busy machine that takes minutes.
+PATIENCE = 300  # seconds
+STANDS_STILL = """
+const [css, seconds] = values, begun = performance.now();
+const middle = () => {
+  const found = document.querySelector(css);
+  found?.scrollIntoView({ block: 'nearest', inline: 'nearest' });
+  const box = found?.getBoundingClientRect();
+  return box ? [box.x + box.width / 2, box.y + box.height / 2] : null;
+};
+for (let last = null; performance.now() - begun < seconds * 1000;) {
+  await new Promise(done => requestAnimationFrame(done));
+  const now = middle();
+  if (now && last && now[0] === last[0] && now[1] === last[1]) return now;
+  last = now;
+}
+return null"""
 
 
 class Browser(ABC):
@@ -68,27 +86,34 @@ class Browser(ABC):
         """Return what this code returns in the page; `values` is what it is given."""
         return self.evaluate(f"const values = {json.dumps(values)};\n{code}")
 
-    def until(self, expression: str, seconds: float = 20, *values: object) -> Any:
-        """Wait until an expression of the page is true, and return it."""
-        end = time.time() + seconds
-        while time.time() < end:
+    def until(self, expression: str, *values: object) -> Any:
+        """Wait until an expression of the page is true, and return it: what one does makes it so by `becomes`."""
+        end = time.monotonic() + PATIENCE
+        while time.monotonic() < end:
             code = f"const found = ({expression}); return found instanceof Node || found"
             if found := self.js(code, *values):
                 return found
             time.sleep(0.05)
         raise AssertionError(f"never: {expression}")
 
-    def middle(self, css: str) -> Place:
-        """Return the middle of an element, which is waited for and brought into view."""
-        self.until("document.querySelector(values[0])", 20, css)
-        found = self.js(
-            "const found = document.querySelector(values[0]); if (!found) return null;"
-            "found.scrollIntoView({ block: 'nearest', inline: 'nearest' });"
-            "const box = found.getBoundingClientRect();"
-            "return [box.x + box.width / 2, box.y + box.height / 2]",
-            css,
+    @contextmanager
+    def becomes(self, expression: str, *values: object) -> Iterator[None]:
+        """Wait until what is done inside makes an expression true, which isn't so before: else the wait would be none."""
+        code = f"try {{ return Boolean({expression}) }} catch {{ return false }}"
+        assert not self.js(code, *values), f"before anything is done: {expression}"
+        yield
+        self.until(expression, *values)
+
+    def still(self) -> None:
+        """Wait until three more pictures are drawn: what answers to another size of an element has done so by then."""
+        self.js(
+            "for (let k = 0; k < 3; k++) await new Promise(done => requestAnimationFrame(done))"
         )
-        assert found, f"the page has no {css}"
+
+    def middle(self, css: str) -> Place:
+        """Return the middle of an element that stands still; it is waited for, and brought into view."""
+        found = self.js(STANDS_STILL, css, PATIENCE)
+        assert found, f"the page has no {css} that stands still"
         return float(found[0]), float(found[1])
 
     def _mouse(self, steps: list[dict[str, Any]], held: str = "") -> None:
