@@ -222,6 +222,38 @@ def test_the_guide_stands_alone_on_an_empty_page(page: Browser) -> None:
     assert page.js("return getComputedStyle(document.querySelector('.welcome')).display") == "none"
 
 
+def test_the_guide_marks_what_it_speaks_of_and_ends_with_the_bank(page: Browser) -> None:
+    """The button that the second step names has a ring; after the last step the bank is one press away."""
+    with page.becomes("!document.querySelector('.guide').hidden && sigma.store.doc.text === ''"):
+        page.js("sigma.command('guide')")
+    ringed = (
+        "[...document.querySelectorAll('button')].filter(each => each.offsetParent"
+        " && getComputedStyle(each).outlineStyle === 'solid').map(each => each.textContent)"
+    )
+    for step in range(1, 6):
+        page.until(
+            "document.querySelector('.guide h3').textContent.startsWith(values[0])", f"{step}."
+        )
+        if step == 2:
+            page.js("sigma.app.pick(null); document.activeElement.blur()")
+            assert page.js(f"return {ringed}") == ["Number"]
+        page.click(".guide .row button")
+    page.until("document.querySelector('.guide h3').textContent === 'That is a model'")
+    page.click(".guide .row button")
+    with page.becomes(f"{ACCEPTED} && sigma.store.shown.name === 'BANK'"):
+        page.click("dialog .choices button:nth-child(2)")
+    assert page.js("return document.querySelector('.guide').hidden && !document.body.dataset.guide")
+
+
+def test_the_legend_has_the_words_of_the_graph(page: Browser) -> None:
+    """What it explains is written as the graph writes it."""
+    words = page.js(
+        "return [...document.querySelectorAll('.key-sheet code')].map(each => each.textContent)"
+    )
+    shown = page.js("return document.querySelector('.stage-pane .graph').textContent")
+    assert words and [word for word in words if word not in shown] == []
+
+
 def test_the_thumb_has_44_pixels(page: Browser, address: str) -> None:
     """Each button and field that a telephone shows is large enough, and nothing is cut off."""
     page.size(390, 844)

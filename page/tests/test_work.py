@@ -2,9 +2,12 @@
 
 from __future__ import annotations
 
+import subprocess
+from pathlib import Path
+
 from drive.browser import Browser
 from test_truth import event, field
-from waits import ACCEPTED, edited
+from waits import ACCEPTED, edited, saved
 
 RUN = ".head-tools .primary"
 
@@ -51,6 +54,27 @@ def test_a_fault_names_event_change_values_and_seed(page: Browser) -> None:
     assert page.js("return sigma.app.picked.name") == "ARRIVE"
 
 
+def test_a_run_that_breaks_off_says_why(page: Browser) -> None:
+    """Two events that schedule each other without a delay: no time passes, and the tab says so."""
+    with page.becomes(f"{ACCEPTED} && sigma.store.shown.name === 'LOOP'"):
+        page.js(
+            "sigma.store.edit('model LOOP;\\nvertex A {\\n  schedule B;\\n}\\n"
+            "vertex B {\\n  schedule A;\\n}\\nend\\n', 'Typing')"
+        )
+    with page.becomes("document.querySelector('.broke-off')"):
+        page.click(RUN)
+    told, height = page.js(
+        "const its = document.querySelector('.broke-off');"
+        "return [its.textContent, its.getBoundingClientRect().height]"
+    )
+    assert "No time passed: events schedule each other without a delay." in told and height > 10
+    with edited(page):
+        page.js("sigma.store.undo()")
+    with page.becomes("sigma.run.result?.value.course.end === 480"):
+        page.click(RUN)
+    assert page.js("return document.querySelector('.broke-off')") is None
+
+
 def test_a_model_with_a_starting_value_runs_at_once(page: Browser) -> None:
     """The first value of the parameter is taken where none is typed."""
     with page.becomes(f"{ACCEPTED} && sigma.store.shown.name === 'EMERGENCY'"):
@@ -61,6 +85,22 @@ def test_a_model_with_a_starting_value_runs_at_once(page: Browser) -> None:
     assert placeholder == "3"
     with page.becomes("sigma.run.result"):
         page.click(RUN)
+
+
+def test_the_history_is_saved_as_the_program_writes_it(
+    page: Browser, downloads: Path, root: Path, program: str
+) -> None:
+    """The file has the bytes that the native program writes for the line beside it."""
+    file = downloads / "bank_run.txt"
+    file.unlink(missing_ok=True)
+    with page.becomes("sigma.run.result"):
+        page.click(RUN)
+    page.click(".run-tab .settings-fold summary")
+    page.click(".run-tab [data-key=history]")
+    words = ["run", "--until", "480", "--seed", "7", "--events", "100000"]
+    model = (root / "examples" / "bank.sigma").read_bytes()
+    done = subprocess.run([program, *words], input=model, capture_output=True, check=True)
+    saved(file, done.stdout)
 
 
 def test_play_from_a_later_event(page: Browser) -> None:

@@ -15,6 +15,7 @@ const EXPRESSIONS = [
   ["QUEUE := QUEUE + 1", "stores a value"], ["A, B := B, A", "finds all values first"], ["draw GAP from 0 in 1..6", "each of 1 to 6 as likely, by stream 0"],
   ["draw WHO from 2 by TABLE", "a value of a table, by weight"], ["+ - * / %", "whole numbers; / rounds toward 0"], ["= <> < <= > >=", "compare"], ["and or not", "join conditions"],
   ["if C then A else B", "one of two values"], ["min(A, B) max(A, B)", "the lesser, the greater"], ["WAITING[2]", "a cell of an array"], ["clk", "the time now"],
+  ["version 2;", "begins a text in which an edge draws its delay"],
 ];
 const PANEL = [
   ["Run", "one run, event by event"], ["Experiments", "many runs, and designs compared"], ["Reduce", "what the model doesn't need, taken out"], ["Compare", "whether another model is the same"],
@@ -29,7 +30,8 @@ export function open_help(): void {
     h("section", {}, h("h3", {}, "Keys"), h("table", {}, ...rows(keys, text => h("kbd", {}, text)))),
     h("section", {}, h("h3", {}, "In the panel"), h("table", {}, ...rows(PANEL, text => text))),
     h("section", {}, h("h3", {}, "What may be written"), h("table", {}, ...rows(EXPRESSIONS, text => h("code", {}, text)))),
-    h("section", {}, h("h3", {}, "On the graph you see"), legend())));
+    h("section", {}, h("h3", {}, "On the graph you see"), legend())),
+    h("p", { className: "hint" }, "The tutorial, and a page on each task and command, are in the folder docs/use of SIGMA."));
 }
 
 export async function open_about(app: App): Promise<void> {

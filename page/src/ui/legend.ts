@@ -25,8 +25,8 @@ function signs(): (readonly [SVGElement, string])[] {
 
 export function legend(): HTMLElement {
   return h("ul", { className: "legend" }, ...signs().map(([sign, means]) => h("li", {}, sign as unknown as Node, h("span", {}, means))),
-    h("li", {}, h("code", {}, "1..6"), h("span", {}, "“1..6, drawn”: a number from 1 to 6, each as likely.")),
-    h("li", {}, h("code", {}, "p 1"), h("span", {}, "“priority 1”: of events that are due in one tick, the one with the least number comes first. Without one it is 5.")));
+    h("li", { className: "of-word" }, h("code", {}, "1..6, drawn"), h("span", {}, "A number from 1 to 6, each as likely.")),
+    h("li", { className: "of-word" }, h("code", {}, "priority 1"), h("span", {}, "Of events that are due in one tick, the one with the least number comes first. Without one it is 5.")));
 }
 
 /** The legend on the paper, behind a button at the lower left. */
