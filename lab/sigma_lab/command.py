@@ -255,14 +255,14 @@ def plan_of(args: argparse.Namespace) -> Plan:
 
 def read_model(path: str) -> str:
     """The text of a model's file, or of the standard input for `-`, with its tables filled; what was filled is said."""
-    from .replication import ready, source_of
+    from .replication import may_ask, ready, source_of
 
     if path == "-":
         text, folder = sys.stdin.buffer.read().decode("utf-8", "surrogateescape"), "."
     else:
         text, where = source_of(ModelFile(path))
         folder = str(where)
-    if "# table" not in text and "# values" not in text:
+    if not may_ask(text):
         return ready(text + "\n" if "\n" not in text else text)
     from . import inputs
 

@@ -18,6 +18,7 @@ import numpy as np
 
 from .errors import InputError
 from .estimates import Floats, sample_quantile
+from .model_files import named_file
 
 LARGEST = 1e12
 
@@ -178,15 +179,15 @@ class Distribution:
         return (f"shifted {self.shift:.12g} " if self.shift else "") + f"{self.family} {numbers}"
 
     @classmethod
-    def parse(cls, words: str, folder: Path = Path(".")) -> Distribution:
+    def parse(cls, words: str, folder: Path | None = None) -> Distribution:
         """The distribution of its words, as in `# table GAP exponential 300;`.
 
         Parameters
         ----------
         words : str
             Also `data FILE`, or `data FILE 60` for a file whose unit has 60 ticks.
-        folder : Path
-            Where files are.
+        folder : Path, optional
+            That of a model whose comment has these words, which then names files in this folder or below it.
         """
         parts = words.split()
         shift = 0.0
@@ -200,7 +201,8 @@ class Distribution:
         if not 2 <= len(parts) <= 3:
             raise InputError("data wants FILE, and how many ticks its unit has")
         ticks = _real(parts[2]) if len(parts) == 3 else 1.0
-        times = read_times(folder / parts[1]) * ticks + shift
+        path = Path(parts[1]) if folder is None else named_file(folder, parts[1])
+        times = read_times(path) * ticks + shift
         return cls("data", (), 0.0, tuple(times.tolist()))
 
     @property

@@ -14,6 +14,7 @@ import numpy as np
 
 from .distributions import FAMILIES, Distribution
 from .errors import InputError, LabError
+from .model_files import named_file
 from .tables import Table, discretize
 
 _TABLE = re.compile(
@@ -25,6 +26,12 @@ _VALUES = re.compile(
 )
 _NO_COLUMN = re.compile(r"^[ \t]*#[ \t]*values[ \t]+[A-Za-z]\w*(?:[ \t]+[^\s;]+)?[ \t]*;", re.M)
 
+_BEHIND = re.compile(
+    rf"^[^#\n]*[^#\s][^#\n]*#[ \t]*(?:table[ \t]+[A-Za-z]\w*[ \t]+(?:{'|'.join(FAMILIES)}|data|shifted)\b"
+    r"|values[ \t]+[A-Za-z]\w*[ \t]+[^\s;]+[ \t]+[^;\n]*;)",
+    re.M,
+)
+
 
 def _asked(text: str) -> list[re.Match[str]]:
     """The placeholders of tables: comments that end in `;`, or name a distribution without it.
@@ -32,7 +39,7 @@ def _asked(text: str) -> list[re.Match[str]]:
     Raises
     ------
     InputError
-        If two ask for one table, or if values are asked for without their column.
+        If two ask for one table, if values are asked for without their column, or if one stands behind code.
     """
     known = (*FAMILIES, "data", "shifted")
     made = [each for each in _TABLE.finditer(text) if each[3] or each[2].split()[0] in known]
@@ -43,6 +50,8 @@ def _asked(text: str) -> list[re.Match[str]]:
             raise InputError(f"line {line}: a second placeholder for {found[1]}")
     if wrong := _NO_COLUMN.search(text):
         raise InputError(f"line {_line_of(text, wrong)}: values want ARRAY FILE COLUMN")
+    if behind := _BEHIND.search(text):
+        raise InputError(f"line {_line_of(text, behind)}: a placeholder has a line of its own")
     return made
 
 
@@ -149,7 +158,10 @@ def _fill_values(text: str, place: re.Match[str], folder: Path) -> tuple[str, st
     if declared is None:
         raise InputError(f"line {line}: no array {name} of numbers is declared")
     size, least, greatest = map(int, declared.groups())
-    values = read_column(folder / file, column.strip())
+    try:
+        values = read_column(named_file(folder, file), column.strip())
+    except InputError as error:
+        raise InputError(f"line {line}: {error}") from None
     if len(values) != size:
         raise InputError(
             f"line {line}: {name} has {size} cells, and {file} has {len(values)} values in column {column}"

@@ -248,8 +248,10 @@ class History:
             values, spans = values.astype(object), spans.astype(object)
         sums = np.concatenate([[0], np.cumsum(values * spans)])
         at = np.searchsorted(times, edges, side="right") - 1
-        if (at < 0).any() or edges[-1] > self.end:
-            raise InputError(f"the history is from {times[0]} to {self.end}, and edges are beyond")
+        if (at < 0).any():
+            raise InputError("the history begins after the first edge")
+        if edges[-1] > self.end:
+            raise InputError(f"the history ends at {self.end}, before the last edge")
         return np.diff(sums[at] + values[at] * (np.asarray(edges) - times[at]))
 
 

@@ -3,6 +3,7 @@
 from __future__ import annotations
 
 import hashlib
+import re
 from collections.abc import Iterator, Sequence
 from pathlib import Path
 from typing import Any
@@ -52,6 +53,11 @@ def source_of(model: ModelLike) -> tuple[str, Path]:
     return data.decode("utf-8", "surrogateescape"), Path(model).parent
 
 
+def may_ask(text: str) -> bool:
+    """Whether a text may have placeholders of tables or values; `inputs.unfilled`, which loads numpy, says which."""
+    return re.search(r"#[ \t]*(?:table|values)[ \t]", text) is not None
+
+
 def ready(model: ModelLike, *, fill: bool = True) -> str:
     """The text of a model with its tables filled.
 
@@ -61,7 +67,7 @@ def ready(model: ModelLike, *, fill: bool = True) -> str:
         Without `fill`, if some aren't: the model would run with one-row tables, and nothing would be left to chance.
     """
     text, folder = source_of(model)
-    if "# table" not in text and "# values" not in text:
+    if not may_ask(text):
         return text
     from . import inputs
 
@@ -86,7 +92,12 @@ class _Runs:
     """Makes a lot of neighbouring runs of a series: what a worker does."""
 
     def __init__(self, text: str, plan: Plan, until: int, first_run: int) -> None:
-        self._text, self._seed, self._first, self._timeout = text, plan.seed, first_run, plan.timeout
+        self._text, self._seed, self._first, self._timeout = (
+            text,
+            plan.seed,
+            first_run,
+            plan.timeout,
+        )
         self._words = [*_words("replicate", plan, until), f"--stride={seeds.stride(plan.seed)}"]
 
     def __call__(self, lot: tuple[int, int]) -> list[report_text.Columns]:

@@ -58,7 +58,7 @@ def test_areas_beyond_64_bits_stay_exact() -> None:
 
 def test_edges_beyond_a_history_are_refused() -> None:
     made = History.parse(SMALL)
-    with pytest.raises(InputError, match="from 0 to 20"):
+    with pytest.raises(InputError, match="ends at 20, before the last edge"):
         made.areas("X", np.array([0, 21]))
 
 
