@@ -5,11 +5,12 @@ from __future__ import annotations
 import base64
 import gzip
 import re
+import time
 from pathlib import Path
 
 import pytest
 from conftest import wait_for_model
-from drive.browser import Browser
+from drive.browser import PATIENCE, Browser
 
 MOST = 1_100_000  # bytes of the file
 
@@ -45,4 +46,8 @@ def test_another_script_in_its_place_is_not_run(
     with page.becomes("document.querySelector('script:not([id]):last-child')"):
         page.open(file.as_uri())
     assert page.js("return document.querySelector('.opening') !== null && !globalThis.sigma")
-    assert page.complaints() != []
+    # A browser tells of it a moment later.
+    end = time.monotonic() + PATIENCE
+    while not page.complaints():
+        assert time.monotonic() < end, "nothing is said against the script"
+        page.still()

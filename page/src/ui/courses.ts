@@ -164,7 +164,7 @@ export class CourseCharts {
       return h("div", { className: `course-row${row.is_event ? " of-event" : ""}` }, h("div", { className: "course-name", title: this.said.title(row.name) || row.name }, h("span", {}, this.said.title(row.name) || row.name), h("span", { className: "course-value" }, value, this.said.unit(row.name) ? h("small", {}, ` ${this.said.unit(row.name)}`) : null), h("small", {}, row.note)), svg as unknown as Node);
     });
     const axis = s("svg", { class: "plot", width: chart, height: TIME, "aria-hidden": "true" }), group = s("g", { class: "axis time", transform: "translate(0 1)" });
-    select(group).call(axisBottom(x).ticks(Math.max(3, Math.floor(chart / 90))).tickFormat(this.said.time).tickSizeOuter(0) as never);
+    select(group).call(axisBottom(x).tickValues(whole_ticks(x, Math.max(3, Math.floor(chart / 90)))).tickFormat(this.said.time).tickSizeOuter(0) as never);
     group.append(s("text", { class: "axis-title", x: (LEFT + chart - 12) / 2, y: 34, "text-anchor": "middle" }, this.said.axis));
     axis.append(group);
     const left = h("div", { className: "course-name axis-note" }, this.is_zoomed ? h("button", { className: "link", onclick: () => this.zoom_out() }, "Whole run") : "");
