@@ -58,6 +58,7 @@ def take(page: Browser, address: str, folder: Path) -> None:
         page.js("sigma.store.edit(sigma.store.doc.text.replace('0..2 = 2', '0..3 = 3'), 'Typing')")
     with page.becomes("sigma.experiments.outcomes.length === 2 && !sigma.experiments.busy()"):
         page.js("sigma.command('experiment')")
+    page.js("document.getElementById('notes').replaceChildren()")
     shot("page_experiments")
     with page.becomes(f"{ACCEPTED} && sigma.store.shown.name === 'POLLING'"):
         page.js("sigma.open_example('polling')")

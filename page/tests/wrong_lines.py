@@ -86,8 +86,8 @@ WRONG = (
     Wrong(
         "drops_a_refused_change",
         DRAFTS,
-        'if (drafts.length === 1 && judged.state === "refused") explain(',
-        'this.remove(id, drafts[0][0]);\n      if (drafts.length === 1 && judged.state === "refused") explain(',
+        'if (drafts.length === 1 && verdict.state === "refused") explain(',
+        'this.remove(id, drafts[0][0]);\n      if (drafts.length === 1 && verdict.state === "refused") explain(',
         "store",
     ),
     Wrong(
