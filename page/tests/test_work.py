@@ -187,25 +187,27 @@ def test_templates_are_put_in(page: Browser) -> None:
 
 def test_a_queue_with_servers_is_a_first_model_that_runs(page: Browser) -> None:
     """An empty page offers it; what it counts is watched, so that its run shows something."""
-    page.js("sigma.command('new')")
-    page.until("document.querySelector('.welcome')?.offsetParent")
-    page.click(".welcome .choices button:nth-child(2)")
-    page.until("sigma.store.doc.text.includes('vertex SERVE')")
+    with page.becomes("document.querySelector('.welcome')?.offsetParent"):
+        page.js("sigma.command('new')")
+    with page.becomes("sigma.store.doc.text.includes('vertex SERVE')"):
+        page.click(".welcome .choices button:nth-child(2)")
     page.until(ACCEPTED)
-    page.click(RUN)
-    page.until("sigma.run.result && document.querySelectorAll('.course-row .now').length === 2", 60)
+    with page.becomes(
+        "sigma.run.result && document.querySelectorAll('.course-row .now').length === 2"
+    ):
+        page.click(RUN)
     assert page.js("return sigma.store.shown.watch") == ["QUEUE", "IDLE"]
 
 
 def test_the_run_of_the_head_does_what_reduce_is_for(page: Browser) -> None:
     """It says so, and stays in the tab, which tells what it does before there is a result."""
-    page.js("sigma.open_example('polling')")
-    page.until(f"{ACCEPTED} && sigma.store.shown.name === 'POLLING'")
-    page.click("#tab-reduce")
-    page.until("document.querySelector('.reduce-tab .blank').offsetParent")
+    with page.becomes(f"{ACCEPTED} && sigma.store.shown.name === 'POLLING'"):
+        page.js("sigma.open_example('polling')")
+    with page.becomes("document.querySelector('.reduce-tab .blank').offsetParent"):
+        page.click("#tab-reduce")
     assert page.js(f"return document.querySelector('{RUN}').textContent") == "Reduce"
-    page.click(RUN)
-    page.until("document.querySelector('.checks .good')?.textContent.includes('sound')", 60)
+    with page.becomes("document.querySelector('.checks .good')?.textContent.includes('sound')"):
+        page.click(RUN)
     assert page.js("return [sigma.app.tab, sigma.run.result]") == ["reduce", None]
     assert not page.js("return document.querySelector('.reduce-tab .blank').offsetParent")
     page.until(f"document.querySelector('{RUN}').textContent === 'Reduce again'")
