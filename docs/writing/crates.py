@@ -11,6 +11,8 @@ from support.places import TOP
 from writing.parts import code, first_sentence, lowered, table
 
 PROVED = "**In one line:** "
+# The page of a crate names the crates that use it, unless there are more than these.
+USERS_NAMED = 12
 
 
 @dataclass(frozen=True)
@@ -64,6 +66,8 @@ def users(page: Path) -> str:
     name = page.parent.name
     lines = [line.partition(":") for line in (TOP / "crates.txt").read_text().splitlines()]
     found = [head.split(" ")[0] for head, _, below in lines if name in below.split()]
+    if len(found) > USERS_NAMED:
+        return f"Used by {len(found)} crates: `git grep -w {name} crates.txt`."
     links = [crate.link(page) for crate in crates() if crate.name in found]
     return f"Used by {', '.join(links)}." if links else "No crate uses it."
 
@@ -111,16 +115,25 @@ def wrong_bodies_of(name: str) -> list[Path]:
     return [edit for folder in folders for edit in sorted(folder.glob("*.edit"))]
 
 
-def wrong_bodies(page: Path) -> str:
-    """Write a table of the wrong bodies of the crate whose page this is."""
+def names_of_wrong_bodies(page: Path) -> str:
+    """Write the names of the wrong bodies of the crate whose page this is."""
     edits = wrong_bodies_of(page.parent.name)
     if not edits:
         return "None."
     folders = " and ".join(
         code(str(folder.relative_to(TOP))) for folder in sorted({edit.parent for edit in edits})
     )
-    rows = [(code(edit.stem), effect(edit)) for edit in edits]
-    return f"In {folders}:\n\n{table(('wrong body', 'what it does'), rows)}"
+    return f"In {folders}: {', '.join(code(edit.stem) for edit in edits)}."
+
+
+def wrong_bodies(_page: Path) -> str:
+    """Write a table of all wrong bodies: what each does."""
+    rows = [
+        (code(crate.name), code(edit.stem), effect(edit))
+        for crate in crates()
+        for edit in wrong_bodies_of(crate.name)
+    ]
+    return table(("crate", "wrong body", "what it does"), rows)
 
 
 def counts(_page: Path) -> str:

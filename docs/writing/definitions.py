@@ -62,7 +62,7 @@ def modules(which: str, question: Question = Question()) -> list[str]:
 
 
 def believed(_page: Path) -> str:
-    """Write the modules that the clauses of the program reach."""
+    """Write the modules that the clauses of the program reach, with the subject of each."""
     lines = right().modules
     rows = [(code(name), lines["believed", name], about(name)) for name in modules("believed")]
     together = f"Together {right().together:,} lines."
@@ -105,6 +105,11 @@ def of_two_calls(_page: Path) -> str:
         for name in modules("believed", TWO_CALLS)
     ]
     return f"{table(('module', 'lines', 'subject'), rows)}\n\nTogether {found.together:,} lines."
+
+
+def of_program(_page: Path) -> str:
+    """Write the modules that the clauses of the program reach, a row for each folder."""
+    return f"{by_folder('believed')}\n\nTogether {right().together:,} lines."
 
 
 def besides(_page: Path) -> str:

@@ -57,7 +57,7 @@ def shared() -> list[tuple[str, str]]:
 
 def table_of_commands(_page: Path) -> str:
     """Write a table of the commands, each with its sentence."""
-    rows = [(f"[`{each.name}`](#{each.name})", each.about) for each in commands()]
+    rows = [(code(each.name), each.about) for each in commands()]
     return table(("command", "for"), rows)
 
 
@@ -69,7 +69,7 @@ def section(command: Any) -> str:
     common = shared()
     own = [row(word) for word in words if row(word) not in common]
     rest = [word.option_strings[0] for word in words if row(word) in common]
-    parts = [f"### {command.name}", f"    {call}", command.about]
+    parts = [f"## {command.name}", f"    {call}", command.about]
     if own:
         parts.append(table(("word", "what it is"), own))
     parts.append(f"[Shared](#{SHARED.lower().replace(' ', '-')}): {', '.join(map(code, rest))}.")
@@ -78,7 +78,7 @@ def section(command: Any) -> str:
 
 def words_of_commands(_page: Path) -> str:
     """Write the options that many commands take, and then a section for each command."""
-    head = f"### {SHARED}\n\n{table(('option', 'what it is'), shared())}"
+    head = f"## {SHARED}\n\n{table(('option', 'what it is'), shared())}"
     return "\n\n".join([head, *map(section, commands())])
 
 

@@ -15,7 +15,8 @@ WRITERS: dict[str, Writer] = {
     "crates": crates.purposes,
     "crates' promises": crates.promises,
     "users": crates.users,
-    "wrong bodies": crates.wrong_bodies,
+    "wrong bodies": crates.names_of_wrong_bodies,
+    "effects of wrong bodies": crates.wrong_bodies,
     "number of wrong bodies": crates.counts,
     "commands": calls.commands,
     "options of commands": calls.options_of_commands,
@@ -26,7 +27,8 @@ WRITERS: dict[str, Writer] = {
     "older tools of the lab": lab.older_tools,
     "vertices": examples.vertices,
     "tests": tests.tests,
-    "definitions": definitions.believed,
+    "definitions": definitions.of_program,
+    "subjects of definitions": definitions.believed,
     "definitions of single crates": definitions.besides,
     "definitions of the whole promise": definitions.of_whole_promise,
     "definitions of two calls": definitions.of_two_calls,
@@ -58,9 +60,12 @@ def difference(page: Path, old: str, new: str) -> str:
 
 
 def main(words: list[str]) -> int:
-    """Write the pages, or with `--check` say which are stale."""
+    """Write the pages, or with `--check` say which are stale, or with `--show` write one part."""
+    if words[:1] == ["--show"] and len(words) == 2 and words[1] in WRITERS:
+        print(WRITERS[words[1]](TOP / "README.md"))
+        return 0
     if words not in ([], ["--check"]):
-        print("docs/write: it takes no word but --check", file=sys.stderr)
+        print("docs/write: it takes --check, or --show and the name of a part", file=sys.stderr)
         return 2
     found = list(stale(pages_with_parts()))
     for page, old, new in found:

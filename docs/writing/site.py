@@ -12,6 +12,7 @@ from urllib.parse import unquote
 
 from support.pages import LINK
 from support.places import TOP, kept_files
+from writing.pages import WRITERS
 
 SITE = TOP / "docs/site"
 PICTURES = (".png", ".svg")
@@ -31,8 +32,33 @@ NAVIGATION = {
     "Trust": ("docs/trust/README", "docs/trust/for-sceptics", "docs/trust/*", "SECURITY"),
     "Work": ("CONTRIBUTING", "docs/work/map", "docs/work/*", "CHANGES"),
     "Crates": ("crates/*/*",),
+    "Lists": ("docs/lists/*",),
 }
 REST = "Examples and more"
+# Pages of the site alone: a title, a sentence, and the part that `docs/write --show` writes too.
+LISTS = {
+    "docs/lists/options-of-sigma-lab": (
+        "The options of sigma-lab",
+        "What each command takes, as its help says.",
+        "words of the lab",
+    ),
+    "docs/lists/definitions": (
+        "The definitions, by subject",
+        "What the clauses of the program rest on, in the order of reading.",
+        "subjects of definitions",
+    ),
+    "docs/lists/crates": (
+        "What is proved of each crate",
+        "A line of the page of each crate.",
+        "crates' promises",
+    ),
+    "docs/lists/wrong-bodies": (
+        "The wrong bodies",
+        "What each does that the prover refuses.",
+        "effects of wrong bodies",
+    ),
+    "docs/lists/tests": ("The tests", "The files of tests, by folder.", "tests"),
+}
 
 
 def pages() -> list[Path]:
@@ -93,13 +119,20 @@ def linked(page: Path, text: str, room: Path) -> str:
     return "\n".join(lines)
 
 
+def list_page(name: str) -> str:
+    """Write a page of the site alone."""
+    title, about, part = LISTS[name]
+    return f"# {title}\n\n{about}\n\n{WRITERS[part](TOP / f'{name}.md')}\n"
+
+
 def furnish(room: Path) -> None:
     """Fill a folder with what Sphinx reads."""
-    found = pages()
-    for page in found:
-        text = linked(page, (TOP / page).read_text(), room)
+    texts = {page: (TOP / page).read_text() for page in pages()}
+    texts.update({Path(f"{name}.md"): list_page(name) for name in LISTS})
+    for page, old in texts.items():
+        text = linked(page, old, room)
         if page == Path("README.md"):
-            text += navigation([str(each.with_suffix("")) for each in found])
+            text += navigation([str(each.with_suffix("")) for each in texts])
         (room / page).parent.mkdir(parents=True, exist_ok=True)
         (room / page).write_text(text)
     (room / "_static").mkdir()

@@ -13,7 +13,7 @@ import pytest
 
 from support.places import TOP
 from support.program import LONGEST
-from writing.site import NAVIGATION, REST, listed, pages
+from writing.site import LISTS, NAVIGATION, REST, listed, pages
 
 
 class Links(HTMLParser):
@@ -60,10 +60,10 @@ def read(site: Path) -> dict[Path, Links]:
 
 
 def test_each_page_is_there(site: Path) -> None:
-    """Each page of the repository is a page of the site, and the first one leads to it."""
+    """Each page of the repository and each list is a page of the site, and the first one leads to it."""
     first = Links((site / "README.html").read_text())
-    for page in pages():
-        name = str(page.with_suffix(".html"))
+    names = [str(page.with_suffix(".html")) for page in pages()]
+    for name in [*names, *(f"{each}.html" for each in LISTS)]:
         assert (site / name).is_file(), name
         assert name == "README.html" or name in first.links, name
     assert 'url=README.html"' in (site / "index.html").read_text()
@@ -95,7 +95,7 @@ def test_the_search_knows_the_pages(site: Path) -> None:
 
 def test_the_navigation() -> None:
     """It has each page once, and those that it doesn't name come last."""
-    names = [str(page.with_suffix("")) for page in pages()]
+    names = [*(str(page.with_suffix("")) for page in pages()), *LISTS]
     found = listed(names)
     assert sorted(name for below in found.values() for name in below) == sorted(
         set(names) - {"README"}

@@ -55,13 +55,13 @@ def test_vertices_of_an_example() -> None:
 
 
 @pytest.mark.parametrize("name", list(cli.MODULES))
-def test_each_option_of_the_lab_is_on_its_page(name: str) -> None:
-    """What the help of a command names stands in the command's section."""
+def test_each_option_of_the_lab_is_listed(name: str) -> None:
+    """What the help of a command names stands in the command's section of the list of options."""
     words = [sys.executable, "-m", "sigma_lab", name, "--help"]
     ran = subprocess.run(words, cwd=TOP / "lab", capture_output=True, text=True, check=True)
     options = set(re.findall(r"(?<![\w-])--?[a-z][a-z-]*", ran.stdout)) - {"-h", "--help"}
-    page = (TOP / "docs/use/sigma-lab.md").read_text()
-    section = page.partition(f"### {name}\n")[2].partition("\n### ")[0]
+    page = WRITERS["words of the lab"](TOP / "README.md")
+    section = f"{page}\n".partition(f"## {name}\n")[2].partition("\n## ")[0]
     assert {"--json", "--csv"} <= options
     assert options - {"--output"} <= set(re.findall(r"--?[a-z][a-z-]*", section))
 
