@@ -182,7 +182,7 @@ def _by_threads(
 ) -> list[tuple[int, Made]]:
     """What is made of all lots, with their numbers, in order.  Raises Stopped with what was made before."""
     made: list[tuple[int, Made]] = []
-    group = processes.Processes()
+    group = processes.part_of_thread()
     halted = threading.Event()
 
     def work() -> None:

@@ -21,7 +21,16 @@ class Processes:
     def __init__(self) -> None:
         self._lock = threading.Lock()
         self._running: set[subprocess.Popen[bytes]] = set()
+        self._parts: list[Processes] = []
         self._stopped = False
+
+    def part(self) -> Processes:
+        """Processes of a part of the work, which end with the whole."""
+        made = Processes()
+        with self._lock:
+            made._stopped = self._stopped
+            self._parts.append(made)
+        return made
 
     def start(self, words: Sequence[str], **streams: Any) -> subprocess.Popen[bytes]:
         """Starts a process; none is started once all were ended."""
@@ -44,6 +53,9 @@ class Processes:
             for process in self._running:
                 with suppress(OSError):
                     process.kill()
+            parts = list(self._parts)
+        for part in parts:
+            part.end()
 
 
 _of_thread = threading.local()
@@ -58,6 +70,12 @@ def owned_by(processes: Processes) -> Iterator[None]:
         yield
     finally:
         _of_thread.processes = before
+
+
+def part_of_thread() -> Processes:
+    """Processes of a part of the work that this thread does."""
+    whole: Processes | None = getattr(_of_thread, "processes", None)
+    return Processes() if whole is None else whole.part()
 
 
 @cache
