@@ -50,6 +50,8 @@ def test_a_million_events_by_pieces(page: Browser) -> None:
     assert "Broke off after 1,000,000 events" in told
     course = page.js("const { course } = sigma.run.result.value; return [course.last, course.end]")
     assert course[0] == "budget 1000000" and course[1] > 2_000_000
+    right = "document.querySelector(values[0]).getBoundingClientRect().right"
+    assert page.js(f"return {right}", ".speed select") <= page.js(f"return {right}", ".dock")
     with page.becomes("sigma.run.result.value.first === 20000"):
         page.click(".transport-row .small")
 
