@@ -21,7 +21,7 @@ table.frame[["FREE", "measure", "value", "low", "high", "more", "more_low", "mor
 # %%
 plots.sweep(table.frame, "FREE", "BROKEN[0]")
 # %% [markdown]
-# With two, 1.65 promises to red patients are broken a day; with three, a quarter as many. `more` is the difference from the
+# With two, 1.65 promises to red patients are broken a day; with three, a sixth as many. `more` is the difference from the
 # first design, with its interval. For each measure the intervals hold together over the designs.
 #
 # All designs have the same seeds, so that a bad day is bad in each, and a difference is known better than the means are.

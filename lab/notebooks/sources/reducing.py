@@ -56,7 +56,7 @@ from sigma_lab.meets import meets
 
 meets(sl.Model.read(EXAMPLES / "bank.sigma"), sl.Plan(600, runs=10))
 # %% [markdown]
-# A customer came at a minute in which another one left on 369 occasions, and in no run did the order change anything that
+# A customer came at a minute in which another one left on 363 occasions, and in no run did the order change anything that
 # is watched. Had `matters` been true, the model would need a priority that says who goes first.
 # ## What an author may have missed
 # These are allowed, and often a slip. A note is weaker than a warning.

@@ -51,8 +51,8 @@ third = sl.Model.from_text(bank.text.replace("var IDLE : 0..2 = 2", "var IDLE : 
 designs = {"two": days, "three": third.replicate(plan)}
 experiments.compare_reports(designs, sl.measure("QUEUE.average"))
 # %% [markdown]
-# `more` is what three tellers have more than two: their queue is shorter by 0.7 customers, and hardly anybody waits. So a
-# third teller saves 0.7 customers times eight hours, or 5.6 hours of waiting a day. Whether that is worth a wage is
+# `more` is what three tellers have more than two: their queue is shorter by 0.64 customers, and hardly anybody waits. So a
+# third teller saves 0.64 customers times eight hours, or 5.1 hours of waiting a day. Whether that is worth a wage is
 # yours to say.
 # ## A model of your own
 # Patterns write queues, resources and the ways of entities. Here a patient comes every 4 to 12 minutes. One in five is
