@@ -351,6 +351,7 @@ def test_what_is_no_sweep(
 def test_a_search_by_hand(lab: Lab, counting: Path) -> None:
     """A run ends with N and a draw from 0 to 9, so that the mean is N and 4.5: the least N that reaches 8 is 4."""
     words = ["N=4,0,2,6", "times=1", "more=0", *PLAN, "--cost", "2*N+1", "--most", 20000]
+    words += ["--fresh", 2000]  # so that chance doesn't decide whether 8.5 is seen to be above 8
     said = lab("search", counting, *words, "--target", "SUM >= 8 by 0.4 worst 0")
     assert "N=4 times=1 more=0 costs 9" in said
     less = ["N=1,3", "times=1", "more=0", *PLAN, "--cost", "0-N", "--most", 20000]
