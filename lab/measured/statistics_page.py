@@ -67,7 +67,10 @@ def errors() -> str:
 def seeds() -> str:
     """Intervals by how seeds are given: a row for each number of streams and runs."""
     shares = {(row["method"], row["law"], row["runs"]): row["share"] for row in kept("strides")}
-    lines = [f"| streams | runs | {' | '.join(SEEDS.values())} |", "|---|---|" + "---|" * len(SEEDS)]
+    lines = [
+        f"| streams | runs | {' | '.join(SEEDS.values())} |",
+        "|---|---|" + "---|" * len(SEEDS),
+    ]
     for streams in (1, 5, 20, 64):
         law = f"{streams} streams, 1 draws each"
         for runs in ("20", "100", "1000"):

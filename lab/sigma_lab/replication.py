@@ -18,6 +18,7 @@ from .observations import Observations
 from .plan import Plan, whole
 from .provenance import Provenance
 from .report import Report
+from .report_columns import Columns, Number
 
 ModelLike = Any
 """A Model, a path, or a text (which has a line feed or a semicolon)."""
@@ -100,7 +101,7 @@ class _Runs:
         )
         self._words = [*_words("replicate", plan, until), f"--stride={seeds.stride(plan.seed)}"]
 
-    def __call__(self, lot: tuple[int, int]) -> list[report_text.Columns]:
+    def __call__(self, lot: tuple[int, int]) -> list[Columns]:
         at, runs = lot
         words = [f"--seed={seeds.spawn(self._seed, self._first + at)}", f"--runs={runs}"]
         data = program.call([*self._words, *words], self._text, timeout=self._timeout)
@@ -109,12 +110,10 @@ class _Runs:
         return report_text.read(data, "sigma replicate")
 
 
-def _joined(parts: Sequence[report_text.Columns]) -> report_text.Columns:
+def _joined(parts: Sequence[Columns]) -> Columns:
     first = parts[0]
-    values: list[dict[str, list[report_text.Number]]] = [
-        {name: [] for name in each} for each in first.values
-    ]
-    made = report_text.Columns(first.items, [], [], [], values)
+    values: list[dict[str, list[Number]]] = [{name: [] for name in each} for each in first.values]
+    made = Columns(first.items, [], [], [], values)
     for part in parts:
         made.seeds += part.seeds
         made.outcomes += part.outcomes

@@ -10,11 +10,12 @@ from typing import TYPE_CHECKING, Any, Literal
 import numpy as np
 from numpy.typing import NDArray
 
-from . import provenance, report_text
+from . import provenance, report_columns, report_text
 from .errors import BadReport, InputError, cut_off
 from .plan import OnCut
 from .provenance import Provenance
-from .report_text import Columns, Number, number_text
+from .report_columns import Columns, Number
+from .report_text import number_text
 
 if TYPE_CHECKING:
     import pandas as pd
@@ -23,7 +24,7 @@ if TYPE_CHECKING:
     from .measures import Measure, Sample
 
 Method = Literal["auto", "t", "willink", "exact"]
-COLUMNS = (*report_text.COLUMNS, "average", "time", "change")
+COLUMNS = (*report_columns.COLUMNS, "average", "time", "change")
 
 
 class Report:

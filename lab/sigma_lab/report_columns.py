@@ -186,7 +186,8 @@ def _of_digits(letters: Words, count: Places) -> Words:
     _need(not ((made | made + np.uint64(0x7676767676767676)) & np.uint64(0x8080808080808080)).any())
     made = made * np.uint64(10) + (made >> np.uint64(8)) & np.uint64(0x00FF00FF00FF00FF)
     made = made * np.uint64(100) + (made >> np.uint64(16)) & np.uint64(0x0000FFFF0000FFFF)
-    return made * np.uint64(10000) + (made >> np.uint64(32)) & np.uint64(0xFFFFFFFF)
+    joined: Words = made * np.uint64(10000) + (made >> np.uint64(32)) & np.uint64(0xFFFFFFFF)
+    return joined
 
 
 def _need(holds: bool) -> None:

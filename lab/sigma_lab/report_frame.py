@@ -9,7 +9,7 @@ import numpy as np
 import pandas as pd
 
 from .errors import InputError
-from .report_text import COLUMNS
+from .report_columns import COLUMNS
 
 if TYPE_CHECKING:
     from .report import Report

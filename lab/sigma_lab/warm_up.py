@@ -6,7 +6,8 @@ from dataclasses import replace
 from typing import TYPE_CHECKING
 
 from .errors import IncompleteRuns, InputError
-from .report_text import Columns, Number, number_text
+from .report_columns import Columns, Number
+from .report_text import number_text
 
 if TYPE_CHECKING:
     from .report import Report

@@ -54,7 +54,10 @@ def test_a_fixed_stride_is_told_from_strides_of_their_own():
     own = strides.seeds_of(map(seeds.stride, range(series)), runs)
     fixed = strides.seeds_of([0x9E3779B97F4A7C15] * series, runs)
     variance = streams * (strides.VALUES**2 - 1) / 12
-    seen = [strides.excess(strides.sums(each, (streams,), 1)[streams], variance) for each in (own, fixed)]
+    seen = [
+        strides.excess(strides.sums(each, (streams,), 1)[streams], variance)
+        for each in (own, fixed)
+    ]
     assert seen[0] < 1.15 < 1.35 < seen[1]
 
 

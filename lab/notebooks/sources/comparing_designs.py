@@ -74,7 +74,9 @@ costs.frame[["S", "U", "value", "low", "high"]].round(1)
 # 3 or more than the chosen one. It makes more runs of those designs alone that are still in question. Again it has to know
 # how far a run may go: from 60 to 300.
 # %%
-best = inventory.select_best(levels, cost, indifference=3, worst=(60, 300), plan=year, where="S < U")
+best = inventory.select_best(
+    levels, cost, indifference=3, worst=(60, 300), plan=year, where="S < U"
+)
 best.table[["S", "U", "mean", "runs", "state"]].round(1)
 # %%
 print(best.design.name, "after", best.runs, "runs; certain:", best.certain)

@@ -20,6 +20,8 @@ for sentence in reduction.why():
     print("-", sentence)
 # %%
 reduction.model
+
+
 # %%
 def size(model):
     """How much there is to read."""

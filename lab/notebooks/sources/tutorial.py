@@ -18,7 +18,9 @@ print(bank.describe())
 # %% [markdown]
 # A slip in the text is told with its place.
 # %%
-print(sl.Model.from_text(bank.text.replace("when IDLE > 0", "when IDLE == 1"), "slip.sigma").problem())
+print(
+    sl.Model.from_text(bank.text.replace("when IDLE > 0", "when IDLE == 1"), "slip.sigma").problem()
+)
 # %% [markdown]
 # ## One day
 # A run is one day, until nobody is inside. A history has a row for each change of what the model watches.
@@ -38,7 +40,9 @@ days.summary()
 # On average 0.7 customers wait, and a teller is idle for 0.15 of the time. The interval from `low` to `high` holds the
 # true mean in 95 of 100 such experiments. Single days differ far more than that:
 # %%
-plots.histogram({"two tellers": days.values("QUEUE", "average")}, 0.2, "mean queue of a day", "customers")
+plots.histogram(
+    {"two tellers": days.values("QUEUE", "average")}, 0.2, "mean queue of a day", "customers"
+)
 # %%
 print("one further day:", days.predict("QUEUE.average"))
 print("nine days in ten:", days.quantile("QUEUE.average", 0.9))
@@ -69,7 +73,9 @@ patient = Flow(clinic, "PATIENT", most=300)
 urgency = patient.attribute("URGENCY", 0, 1)
 patient.arrive(gap=draw(clinic.stream(), 4, 12), until=600)
 patient.set_drawn(urgency, draw(clinic.stream(), clinic.table("TRIAGE", {0: 1, 1: 4})))
-patient.serve(doctor, draw(clinic.stream(), 8, 24), urgency, by=0, patience=45, impatient=urgency == 1)
+patient.serve(
+    doctor, draw(clinic.stream(), 8, 24), urgency, by=0, patience=45, impatient=urgency == 1
+)
 patient.leave()
 patient.log(urgency)
 clinic.watch(doctor.queue, doctor.busy, doctor.left, patient.stayed, patient.done)
@@ -85,7 +91,9 @@ patients.groupby("end")[["waited", "served"]].agg(["count", "mean"]).round(1)
 # %% [markdown]
 # How many doctors does it take? `DOCTORS` is a starting value, so each number is a design.
 # %%
-table = clinic.sweep({"DOCTORS": [1, 2, 3]}, ["DOCTOR_QUEUE[1].average", "DOCTOR_LEFT[1]"], sl.Plan(960, runs=100))
+table = clinic.sweep(
+    {"DOCTORS": [1, 2, 3]}, ["DOCTOR_QUEUE[1].average", "DOCTOR_LEFT[1]"], sl.Plan(960, runs=100)
+)
 table.frame[["DOCTORS", "measure", "value", "low", "high"]].round(2)
 # %% [markdown]
 # With one doctor half of the patients give up; with two hardly anyone does.
