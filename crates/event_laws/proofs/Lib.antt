@@ -9,3 +9,7 @@ pub mod ChangesFollow
 pub mod DelaysFollow
 pub mod EdgesFollow
 pub mod EventFollows
+pub mod EdgesChange
+pub mod EdgesInOrder
+pub mod EdgesRenewed
+pub mod EdgesJoined

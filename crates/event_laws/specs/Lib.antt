@@ -6,3 +6,4 @@ pub mod Follows
 pub mod EdgesMade
 pub mod EdgesFit
 pub mod EventMade
+pub mod EdgesTidied

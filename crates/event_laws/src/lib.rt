@@ -3,6 +3,8 @@
 
 mod changes;
 mod events;
+mod tidied;
 
 pub use changes::trees_of_changes_follow_a_run;
 pub use events::trees_of_events_follow_a_run;
+pub use tidied::tidied_edges_are_tidied_at_each_moment;

@@ -3,7 +3,7 @@ use Rattle.std.proofs.Common.{◌≡◌, Bool, true, false, not, cond, ◌&&◌,
 use Rattle.std.specs.List.{AllByRecursion}
 use Rattle.model_core.specs.Run.Pending.{Entry}
 use Rattle.pair_laws.specs.Effects.{after_effects, SameEffects}
-use Rattle.pair_laws.specs.Exchanges.{EdgeEffect, effects_made, may_change, may_change_places, Exchanged, unchanged, exchanged, and_then, Ordered, all_ordered, next, joined_edge, Tidied, by_order, by_joining, tidied_twice}
+use Rattle.pair_laws.specs.Exchanges.{EdgeEffect, effects_made, may_change, may_change_places, Exchanged, unchanged, exchanged, and_then, Ordered, all_ordered, next, joined_edge, Tidied, by_effects, by_order, by_joining, tidied_twice}
 use Rattle.order_laws.proofs.DueSorted.{sorted}
 use Rattle.pair_laws.proofs.EventEffects.{after-append}
 use Rattle.pair_laws.proofs.EffectsInDueOrder.{effects-alike, from_sorted}
@@ -13,7 +13,7 @@ use Rattle.pair_laws.proofs.FreeCancels.{exchange-effects}
 abbrev pub SameSorted : List EdgeEffect → List EdgeEffect → Type 0
 SameSorted ks ls = (p : List Entry) → sorted (after_effects (effects_made ks) p) ≡ sorted (after_effects (effects_made ls) p)
 
-made-append : (ks ls : List EdgeEffect) → effects_made (ks ++ ls) ≡ effects_made ks ++ effects_made ls
+pub made-append : (ks ls : List EdgeEffect) → effects_made (ks ++ ls) ≡ effects_made ks ++ effects_made ls
 made-append [] ls = refl
 made-append (k ∷ ks) ls = ap (λ l. cond k.holds (k.effect ∷ l) l) (made-append ks ls) ∙ chosen k.holds where
   chosen : (b : Bool) → cond b (k.effect ∷ effects_made ks ++ effects_made ls) (effects_made ks ++ effects_made ls) ≡ cond b (k.effect ∷ effects_made ks) (effects_made ks) ++ effects_made ls
@@ -90,6 +90,7 @@ joined_edge-same front a between b back apart all = from_same (front ++ (a ∷ b
 -- ---- ordered and joined, any number of times
 
 tidied-sorted : {ks ls : List EdgeEffect} → Tidied ks ls → SameSorted ks ls
+tidied-sorted (by_effects e) = λ p. ap (λ fs. sorted (after_effects fs p)) e
 tidied-sorted (by_order o) = ordered-sorted o
 tidied-sorted (by_joining front a between b back apart all) = joined_edge-sorted front a between b back apart all
 tidied-sorted (tidied_twice one two) = λ p. tidied-sorted one p ∙ tidied-sorted two p

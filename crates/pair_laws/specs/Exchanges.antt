@@ -50,8 +50,9 @@ pub data Ordered : List EdgeEffect → List EdgeEffect → Type 0 where
 abbrev pub joined_edge : EdgeEffect → EdgeEffect → EdgeEffect
 joined_edge a b = record { holds = a.holds || b.holds; effect = cond a.holds a.effect b.effect }
 
--- edges that were ordered and joined, any number of times
+-- edges that were ordered and joined, any number of times; what an edge does that has no effect doesn't matter
 pub data Tidied : List EdgeEffect → List EdgeEffect → Type 0 where
+  by_effects : {ks ls : List EdgeEffect} → effects_made ks ≡ effects_made ls → Tidied ks ls
   by_order : {ks ls : List EdgeEffect} → Ordered ks ls → Tidied ks ls
   by_joining : (front : List EdgeEffect) (a : EdgeEffect) (between : List EdgeEffect) (b : EdgeEffect) (back : List EdgeEffect) → (a.holds && b.holds) ≡ false → AllByRecursion (λ k. IsTrue (may_change_places k b)) between → Tidied (front ++ (a ∷ between ++ b ∷ back)) (front ++ (joined_edge a b ∷ between ++ back))
   tidied_twice : {ks ls ms : List EdgeEffect} → Tidied ks ls → Tidied ls ms → Tidied ks ms
