@@ -13,3 +13,5 @@ pub mod EdgesChange
 pub mod EdgesInOrder
 pub mod EdgesRenewed
 pub mod EdgesJoined
+pub mod StoresClosed
+pub mod EventClosing

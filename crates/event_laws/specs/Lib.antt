@@ -7,3 +7,5 @@ pub mod EdgesMade
 pub mod EdgesFit
 pub mod EventMade
 pub mod EdgesTidied
+pub mod EventClosed
+pub mod SumFollows
