@@ -1,0 +1,2 @@
+pub mod ClassesCarry
+pub mod TreesByClass
